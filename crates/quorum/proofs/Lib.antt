@@ -1,0 +1,3 @@
+pub mod Grouping
+pub mod Masks
+pub mod Weighing

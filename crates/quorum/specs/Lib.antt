@@ -1,0 +1,4 @@
+pub mod GroupRule
+pub mod MajorityRule
+pub mod Rules
+pub mod Sets
