@@ -1,15 +1,17 @@
 -- Masks, cabinet by cabinet. Assumes nothing.
 use mathlib.Core.Path.{_≡_, refl, sym, ap, _∙_}
 use mathlib.Core.Bool.{Bool, true, false, cond, _&&_}
-use Prim.Native.Nat.{ℕ, zero, suc, _+_, _*_, _/_, _%_, _^_, _<_}
-use native.Mathlib.Nat.{mod-eq-of-lt}
+use Prim.Native.Nat.{ℕ, zero, suc, _+_, _*_, _/_, _%_, _^_, _≤_, _<_}
+use native.Mathlib.Nat.{mod-eq-of-lt, div-eq-of-lt, lt-of-lt-of-le}
 use native.Mathlib.Omega.{arith}
 use native.Mathlib.Numerals.{one-add}
 use lib.Bits.{bitAnd}
 use lib.Count.{ones, ones-cat}
 use lib.Dec.{eqb}
+use lib.Pow.{pow-mono}
+use mathlib.Core.Logic.{inl, inr}
 use Rattle.std.proofs.shelf.Bits.{and-shr, and-mod, mod-below, mod-pow-add, pow-pos}
-use Rattle.std.proofs.shelf.Tests.{and-parts, and-from}
+use Rattle.std.proofs.shelf.Tests.{and-parts, and-from, cases-lt, both-ways}
 use Rattle.quorum.specs.Sets.{has, weigh, count}
 
 -- one bit of an intersection
@@ -71,3 +73,14 @@ ones-count m (suc k) =
 -- the set bits of a 16-bit mask are its cabinets
 pub ones-size : (m : ℕ) → m < 2 ^ 16 → ones m ≡ count 16 (has m)
 ones-size m fits = ap ones (sym (mod-eq-of-lt fits)) ∙ ones-count m 16
+
+-- no cabinet past the sixteenth is in a 16-bit mask
+pub has-past : (set i : ℕ) → set < 2 ^ 16 → 16 ≤ i → has set i ≡ false
+has-past set i small past =
+    let none : set / 2 ^ i ≡ 0 = div-eq-of-lt (lt-of-lt-of-le small (pow-mono past)) in
+    ap (λ n. eqb (n % 2) 1) none
+
+-- the cabinets of a 16-bit mask are numbered below 16
+pub has-below : (set i : ℕ) → set < 2 ^ 16 → has set i ≡ true → i < 16
+has-below set i small there =
+    elim (cases-lt i 16) [ inl below ↦ below | inr past ↦ absurd (both-ways (has set i) (has-past set i small past) there) ]

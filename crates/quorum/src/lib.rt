@@ -5,9 +5,17 @@ mod by_majority;
 ghost use Prim.Native.Nat.{ℕ};
 ghost use mathlib.Core.Path.{_≡_};
 ghost use mathlib.Core.Bool.{Bool};
+ghost use Rattle.quorum.specs.Sets.{has};
 ghost use Rattle.quorum.specs.Rules.{Members-count, Grows, Share-member};
 pub use by_groups::GroupsRule;
 pub use by_majority::MajorityRule;
+
+// Whether a cabinet is in a set.
+pub fn contains(set: u16, cabinet: u8) -> bool
+    ensures { λ r. ⌜ r ≡ has set cabinet ⌝ }
+{
+    cabinet < 16 && (set >> cabinet) % 2 == 1
+}
 
 // Says which sets of cabinets are quorums of a member set. Sets are masks: cabinet i is the bit worth 2^i.
 pub trait QuorumRule {
