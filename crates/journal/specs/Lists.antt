@@ -8,13 +8,9 @@ use lib.ListN.{length, getD, take}
 use Rattle.std.specs.declared.result.Result.{Result}
 use Rattle.std.specs.declared.result.Result.the-variants.{Ok, Err}
 use Rattle.refusal.specs.declared.Refusal.{Refusal}
-use Rattle.refusal.specs.declared.Refusal.the-variants.{OutOfBounds, NoCabinet, NoTray, Full, NoPosition, ListShort}
+use Rattle.refusal.specs.declared.Refusal.the-variants.{NoCabinet, Full, NoPosition, ListShort}
 use Rattle.journal.specs.declared.Entry.{Entry}
 use Rattle.journal.specs.Entries.{blank}
-
--- 1 for a number of owners or a limit outside its bounds
-abbrev pub bounds-answer : ℕ → ℕ → Result (Unit {0}) Refusal
-bounds-answer owners limit = cond (leb owners 65535 && leb 2 limit && leb limit 4000) (Ok tt) (Err OutOfBounds)
 
 -- what stands for every journal s: the bounds of its two numbers, no list past its limit, and none without an owner
 pub record Laws {S : Type 0} (owners limit : S → ℕ) (lists : S → ℕ → List Entry) : Type 0 where

@@ -1,7 +1,8 @@
 // Entries, and the interface of every journal: one list of entries for each owner.
 ghost use Prim.Native.Nat.{ℕ};
 ghost use Rattle.journal.specs.Entries.{kind-number, members-of};
-ghost use Rattle.journal.specs.Lists.{Laws, append-answer, append-lists, bounds-answer, entry-answer, keep-answer, keep-lists, length-answer};
+ghost use Rattle.journal.specs.Lists.{Laws, append-answer, append-lists, entry-answer, keep-answer, keep-lists, length-answer};
+ghost use Rattle.journal.specs.Makes.{bounds-answer};
 ghost use Rattle.journal.specs.declared.Entry.{Entry};
 ghost use mathlib.Core.List.{List};
 ghost use mathlib.Core.Path.{_≡_};
@@ -43,7 +44,9 @@ impl Entry {
 
 // The most owners and the bounds of the limit of any journal.
 pub const MOST_OWNERS: usize = 65535;
+
 pub const LEAST_LIMIT: usize = 2;
+
 pub const MOST_LIMIT: usize = 4000;
 
 // Whether a journal can have these numbers: 1 if not.

@@ -1,0 +1,8 @@
+use mathlib.Core.Path.{_≡_}
+use lib.ListN.{length, take}
+use Rattle.reel.specs.Replay.{replay}
+use Rattle.reel.proofs.records.live.Given as given
+
+-- what was counted so far is the length of what was replayed so far
+abbrev pub Inv-loop-record : given.InvT-loop-record
+Inv-loop-record l = l .live ≡ length (replay (l .limit) (take (l .record-index) (l .records)))

@@ -1,0 +1,15 @@
+use mathlib.Core.Path.{ap, _∙_}
+use native.Mathlib.Omega.{arith}
+use Rattle.reel.specs.Replay.{step}
+use Rattle.reel.proofs.Steps.{replay-set}
+use Rattle.reel.proofs.records.push.Needs as need
+
+pub returns : need.returns
+returns c =
+    let j = c .args .limit in
+    record {
+      within = omega (arith, c .make-room-end .ensures .free);
+      list =
+          replay-set j (c .make-room-end .last .records) (c .make-room-end .result) (c .args .made) (omega arith)
+          ∙ ap (λ es. step j es (c .args .made)) (c .make-room-end .ensures .same);
+    }
