@@ -8,7 +8,7 @@ ghost use mathlib.Core.List.{List};
 ghost use mathlib.Core.Path.{_≡_};
 use refusal::Refusal;
 
-#[derive(Clone, Copy)]
+#[derive(Clone, Copy, PartialEq, Eq)]
 pub enum EntryKind {
     Configuration,
     Order,
@@ -25,7 +25,7 @@ impl EntryKind {
     }
 }
 
-#[derive(Clone, Copy)]
+#[derive(Clone, Copy, PartialEq, Eq)]
 pub struct Entry {
     pub epoch: u32,
     pub kind: EntryKind,
