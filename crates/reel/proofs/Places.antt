@@ -1,26 +1,25 @@
 -- Lemmas on the memory of a reel: where each owner's records lie, and what a change of one owner's leaves of each.
 use mathlib.Core.Path.{_≡_, refl, sym, ap, _∙_}
 use mathlib.Core.Bool.{Bool, cond, true, false, _&&_}
-use mathlib.Core.List.{List, [], _∷_, _++_}
-use mathlib.Core.Logic.{_⊎_, _≢_, ⊎-elim}
+use mathlib.Core.List.{List}
+use mathlib.Core.Logic.{_≢_, ⊎-elim}
 use Prim.Native.Nat.{ℕ, _+_, _-_, _*_, _≤_, _<_, min}
-use native.Mathlib.Nat.{add-mul, one-mul}
 use native.Mathlib.Omega.{arith}
-use lib.Dec.{ltb, leb, eqb}
-use lib.ListN.{length, getD, set, take, drop, length-set, length-take, length-drop}
+use lib.Dec.{ltb, leb}
+use lib.ListN.{length, getD, set, take, drop, length-take, length-drop}
 use borrow.Rule.Slice.PartMut.{putMid}
 use Rattle.std.specs.shelf.Lists.{between}
-use Rattle.std.proofs.shelf.Bits.{mul-le}
-use Rattle.std.proofs.shelf.Lists.{getD-set-same, getD-set-other, take-take, take-all, drop-append-le, take-append-le, append-assoc, drop-at, take-at, drop-drop, length-append, length-take-le}
+use Rattle.std.proofs.shelf.Lists.{getD-set-same, getD-set-other, take-take, length-append}
 use Rattle.std.proofs.shelf.Parts.{between-is, take-putMid-below, drop-putMid, between-putMid}
-use Rattle.std.proofs.shelf.Tests.{cases-eq, cases-lt, lt-ltb, eq-eqb, and-parts, leb-true, ltb-true}
+use Rattle.std.proofs.shelf.Tests.{cases-eq, cases-lt, and-parts, leb-true, ltb-true}
 use Rattle.std.proofs.shelf.Ways.{tells}
 use denote.Ref.{now}
 use Rattle.std.specs.declared.result.Result.the-variants.{Ok, Err}
 use Rattle.refusal.specs.declared.Refusal.the-variants.{NoCabinet}
+use Rattle.journal.proofs.Parts.{part-fits}
 use Rattle.journal.specs.declared.Entry.{Entry}
 use Rattle.journal.specs.Lists.{append-lists, keep-lists}
-use Rattle.journal.specs.Makes.{in-bounds, measure-answer, made-owners, made-limit}
+use Rattle.journal.specs.Makes.{in-bounds, measure-answer}
 use Rattle.reel.specs.declared.Record.{Record}
 use Rattle.reel.specs.declared.Record.the-variants.{Append, Keep}
 use Rattle.reel.specs.declared.Reel.{Reel}
@@ -28,12 +27,6 @@ use Rattle.reel.specs.Replay.{step, replay, in-use, reel-lists, add-lists}
 use Rattle.reel.specs.declared.reels.Span.{Span}
 use Rattle.reel.specs.Meaning.{owners-of, limit-of, span-answer}
 use Rattle.reel.specs.Lawful.{made-by}
-
--- an owner's part lies within the memory
-pub part-fits : (o n w m : ℕ) → o < n → n * w ≤ m → o * w + w ≤ m
-part-fits o n w m h k =
-    let a : (o + 1) * w ≤ n * w = mul-le (o + 1) w n w (omega arith) (omega arith) in
-    omega (arith, add-mul o 1 w, one-mul w)
 
 -- a reel that has an owner has the memory for it
 pub owner-fits : (s : Reel) (o : ℕ) → o < owners-of s → (o * (limit-of s + 1) + (limit-of s + 1) ≤ length (now (s .records))) × (o < length (now (s .used)))

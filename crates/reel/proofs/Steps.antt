@@ -1,17 +1,17 @@
 -- Lemmas on replaying records: one record more, and entries alone.
-use mathlib.Core.Path.{_≡_, refl, sym, ap, _∙_}
-use mathlib.Core.Bool.{Bool, cond, true, false}
+use mathlib.Core.Path.{_≡_, sym, ap, _∙_}
+use mathlib.Core.Bool.{true}
 use mathlib.Core.List.{List, [], _∷_, _++_, map}
-use mathlib.Core.Logic.{_⊎_, _≢_, ⊎-elim}
+use mathlib.Core.Logic.{⊎-elim}
 use Prim.Native.Nat.{ℕ, _+_, _≤_, _<_, min}
 use native.Mathlib.Nat.{add-zero}
 use native.Mathlib.Omega.{arith}
 use lib.Dec.{ltb, eqb}
 use lib.ListN.{length, getD, set, take, drop, length-take}
 use Rattle.std.specs.Iters.{folded}
-use Rattle.std.proofs.shelf.Lists.{length-push, take-all, take-take, take-set, take-set-le, take-more, take-more-set, take-map, map-push, append-nil, append-assoc, getD-append-left, getD-push, getD-take, getD-drop, drop-drop}
+use Rattle.std.proofs.shelf.Lists.{length-push, take-all, take-take, take-set, take-set-le, take-more-set, take-map, map-push, append-nil, append-assoc, getD-append-left, getD-push, getD-take, getD-drop, drop-drop}
 use Rattle.std.proofs.shelf.Sums.{folded-push, folded-more}
-use Rattle.std.proofs.shelf.Tests.{cases-lt, lt-ltb, le-ltb, cond-true, cond-false}
+use Rattle.std.proofs.shelf.Tests.{cases-lt, lt-ltb, cond-true}
 use Rattle.std.proofs.shelf.Ways.{tells}
 use Rattle.journal.specs.declared.Entry.{Entry}
 use Rattle.journal.specs.Entries.{blank}

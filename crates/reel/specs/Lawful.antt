@@ -14,7 +14,7 @@ use Rattle.std.proofs.shelf.Tests.{and-parts, leb-true, ltb-true, le-ltb, cond-
 use Rattle.refusal.specs.declared.Refusal.the-variants.{OutOfBounds, NoTray}
 use Rattle.journal.specs.declared.Entry.{Entry}
 use Rattle.journal.specs.Lists.{Laws}
-use Rattle.journal.specs.Makes.{in-bounds, measure-answer, made-owners, made-limit}
+use Rattle.journal.specs.Makes.{in-bounds, made-owners, made-limit}
 use Rattle.reel.specs.declared.Record.{Record}
 use Rattle.reel.specs.declared.Record.the-variants.{Append, Keep}
 use Rattle.reel.specs.declared.Reel.{Reel}

@@ -26,7 +26,7 @@ fn after(limit: u16, live: u16, made: Record) -> u16
     }
 }
 
-// What is known to lie at a position that a list of its length has been brought to.
+// What a search for one position knows after a record; `reached` says that the list before it ends there.
 fn at_position(made: Record, reached: bool, known: Entry) -> Entry
     ensures { λ r. ⌜ r ≡ found-after made reached known ⌝ }
 {
@@ -37,7 +37,7 @@ fn at_position(made: Record, reached: bool, known: Entry) -> Entry
 }
 
 // How long the list is that the records stand for.
-pub fn live(limit: u16, records: &[Record]) -> u16
+pub(crate) fn live(limit: u16, records: &[Record]) -> u16
     ensures { λ r. ⌜ r ≡ length (replay limit (now (records .entry))) ⌝ }
 {
     let mut live = 0;
@@ -48,7 +48,7 @@ pub fn live(limit: u16, records: &[Record]) -> u16
 }
 
 // The entry at a position of the list that the records stand for; 50 where there is none.
-pub fn find(limit: u16, records: &[Record], position: u16) -> Result<Entry, Refusal>
+pub(crate) fn find(limit: u16, records: &[Record], position: u16) -> Result<Entry, Refusal>
     ensures { λ r. ⌜ r ≡ entry-at (replay limit (now (records .entry))) position ⌝ }
 {
     let mut live = 0;
@@ -66,7 +66,7 @@ pub fn find(limit: u16, records: &[Record], position: u16) -> Result<Entry, Refu
 }
 
 // Leaves the live entries alone at the front, and tells how many they are.
-pub fn rewrite(limit: u16, records: &mut [Record]) -> u16
+fn rewrite(limit: u16, records: &mut [Record]) -> u16
     ensures count { λ r. ⌜ r ≡ length (replay limit (now (records .entry))) ⌝ }
     ensures front { λ r. ⌜ take r (now (records .exit)) ≡ map Append (replay limit (now (records .entry))) ⌝ }
 {
@@ -93,7 +93,7 @@ fn make_room(limit: u16, records: &mut [Record], used: usize) -> usize
 }
 
 // Adds a record behind the first `used`, and tells how many are then in use.
-pub fn push(limit: u16, records: &mut [Record], used: usize, made: Record) -> usize
+pub(crate) fn push(limit: u16, records: &mut [Record], used: usize, made: Record) -> usize
     requires { ⌜ used ≤ length (now records) ⌝ ∗ ⌜ limit < length (now records) ⌝ }
     ensures within { λ r. ⌜ r ≤ length (now (records .entry)) ⌝ }
     ensures list { λ r. ⌜ replay limit (take r (now (records .exit))) ≡ step limit (replay limit (take used (now (records .entry)))) made ⌝ }

@@ -62,6 +62,7 @@ struct Span {
 }
 
 impl Reel<'_> {
+    // Refused by 2 where there is no such owner.
     fn span(&self, owner: u16) -> Result<Span, Refusal>
         ensures answer { λ r. ⌜ r ≡ span-answer (now (self .entry)) owner ⌝ }
         ensures within { λ r. ⌜ Within (now (self .entry)) owner r ⌝ }

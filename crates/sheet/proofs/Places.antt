@@ -1,27 +1,18 @@
 -- Lemmas on the rows of a sheet: where they lie, and what one write leaves of each.
-use mathlib.Core.Path.{_≡_, refl, sym, ap, _∙_}
-use mathlib.Core.Bool.{Bool, cond, true, false, _&&_}
+use mathlib.Core.Path.{_≡_, refl, _∙_}
 use mathlib.Core.List.{List, [], _∷_, _++_}
-use mathlib.Core.Logic.{_⊎_, _≢_, ⊎-elim}
+use mathlib.Core.Logic.{_≢_, ⊎-elim}
 use Prim.Native.Nat.{ℕ, _+_, _-_, _*_, _≤_, _<_, min}
-use native.Mathlib.Nat.{add-mul, one-mul}
 use native.Mathlib.Omega.{arith}
-use lib.Dec.{ltb, eqb}
-use lib.ListN.{length, getD, set, take, drop, length-set, length-take, length-drop}
+use lib.ListN.{length, getD, set, take, drop, length-take, length-drop}
 use Rattle.std.proofs.shelf.Lists.{getD-take, getD-drop, getD-set-same, getD-set-other, take-more-set, take-set-le, take-take, drop-set-add, drop-set-lt}
-use Rattle.std.proofs.shelf.Bits.{mul-le}
-use Rattle.std.proofs.shelf.Tests.{cases-eq, cases-lt, lt-ltb, eq-eqb}
+use Rattle.std.proofs.shelf.Tests.{cases-eq, cases-lt}
 use Rattle.std.proofs.shelf.Ways.{tells}
+use Rattle.journal.proofs.Parts.{part-fits}
 use Rattle.journal.specs.declared.Entry.{Entry}
 use Rattle.journal.specs.Lists.{length-answer, append-lists, keep-lists}
-use Rattle.std.specs.declared.result.Result.the-variants.{Ok, Err}
+use Rattle.std.specs.declared.result.Result.the-variants.{Ok}
 use Rattle.sheet.specs.Rows.{row, rows-lists}
-
--- a row lies within the memory
-pub row-fits : (o n w m : ℕ) → o < n → n * w ≤ m → o * w + w ≤ m
-row-fits o n w m h k =
-    let a : (o + 1) * w ≤ n * w = mul-le (o + 1) w n w (omega arith) (omega arith) in
-    omega (arith, add-mul o 1 w, one-mul w)
 
 -- the list of a row is as long as the row's length says
 pub length-row : (limit : ℕ) (rows : List Entry) (lengths : List ℕ) (o : ℕ) → o * limit + limit ≤ length rows → length (row limit rows lengths o) ≡ min (getD lengths o 0) limit
@@ -44,13 +35,13 @@ pub row-other : (limit : ℕ) (rows : List Entry) (o p n m : ℕ) (e : Entry) �
 row-other limit rows o p n m e ne h k =
     ⊎-elim
     (λ (lt : p < o).
-    let a : p * limit + limit ≤ o * limit = row-fits p o limit (o * limit) lt (omega arith) in
+    let a : p * limit + limit ≤ o * limit = part-fits p o limit (o * limit) lt (omega arith) in
     let i : ℕ = o * limit + n - p * limit in
     let at : o * limit + n ≡ p * limit + i = omega arith in
     let past : m ≤ i = omega arith in
     rw (at, drop-set-add) (take-set-le m (drop (p * limit) rows) i e past))
     (λ (le : o ≤ p).
-    let a : o * limit + limit ≤ p * limit = row-fits o p limit (p * limit) (omega arith) (omega arith) in
+    let a : o * limit + limit ≤ p * limit = part-fits o p limit (p * limit) (omega arith) (omega arith) in
     let before : o * limit + n < p * limit = omega arith in
     rw drop-set-lt refl)
     (cases-lt p o)
@@ -59,7 +50,7 @@ row-other limit rows o p n m e ne h k =
 pub told : (owners limit : ℕ) (rows : List Entry) (lengths : List ℕ) (o n : ℕ) → owners * limit ≤ length rows → Ok n ≡ length-answer owners (rows-lists owners limit rows lengths) o → (o < owners) × (n ≡ min (getD lengths o 0) limit) × (o * limit + limit ≤ length rows)
 told owners limit rows lengths o n places answer =
     let got : (o < owners) × (n ≡ length (row limit rows lengths o)) = grind (arith, tells) in
-    let fits = row-fits o owners limit (length rows) (got .0) places in
+    let fits = part-fits o owners limit (length rows) (got .0) places in
     (got .0, got .1 ∙ length-row limit rows lengths o fits, fits)
 
 -- an entry written behind an owner's list, and counted, is the journal's append

@@ -1,6 +1,7 @@
 ghost use Prim.Native.Nat.{ℕ, _*_};
 ghost use Rattle.journal.specs.Makes.{made-limit, made-owners, measure-answer};
-ghost use Rattle.sheet.specs.Meaning.{lists-of, sheet-laws};
+ghost use Rattle.sheet.specs.Lawful.{sheet-laws};
+ghost use Rattle.sheet.specs.Meaning.{lists-of};
 ghost use lib.ListN.{length};
 ghost use mathlib.Core.List.{[]};
 ghost use mathlib.Core.Path.{_≡_};

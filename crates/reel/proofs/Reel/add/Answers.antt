@@ -9,7 +9,7 @@ use Rattle.std.specs.declared.result.Result.the-variants.{Ok, Err}
 use Rattle.refusal.specs.declared.Refusal.the-variants.{NoCabinet}
 use Rattle.journal.specs.Makes.{made-owners, made-limit}
 use Rattle.reel.specs.Replay.{reel-lists}
-use Rattle.reel.specs.Meaning.{owners-of, limit-of, measured}
+use Rattle.reel.specs.Meaning.{owners-of, limit-of}
 use Rattle.reel.proofs.Places.{told, lists-added, same-measure, length-putMid}
 use Rattle.reel.proofs.Reel.add.Needs as need
 

@@ -1,10 +1,9 @@
 use mathlib.Core.Path.{_≡_, ap, sym, _∙_}
 use mathlib.Core.List.{map}
 use native.Mathlib.Omega.{arith}
-use Prim.Native.Nat.{_+_, _≤_, _<_}
-use lib.ListN.{length, getD, set, take, drop}
+use Prim.Native.Nat.{_+_, _<_}
+use lib.ListN.{length, getD, set, take}
 use Rattle.std.proofs.shelf.Lists.{take-all, drop-set-lt}
-use Rattle.std.proofs.shelf.Ways.{tells}
 use Rattle.reel.specs.declared.Record.the-variants.{Append}
 use Rattle.reel.specs.Replay.{step-length, replay, step}
 use Rattle.reel.proofs.Steps.{first, length-step, replay-more, moved, same-at, same-after, step-rises}
