@@ -1,14 +1,10 @@
 // The main job: what the parts of the station do, told as a plant engineer would follow it.
-mod journals;
-mod members;
-mod shift;
-
 use std::error::AnyError;
 
 fn run(rt: &LibcRuntime) -> Result<(), AnyError> {
-    shift::show(rt)?;
-    members::show(rt)?;
-    journals::show(rt)
+    show_shift::show(rt)?;
+    show_members::show(rt)?;
+    show_journals::show(rt)
 }
 
 fn main(rt: LibcRuntime) -> Result<(), AnyError> {
