@@ -32,7 +32,7 @@ replay limit rs = folded (step limit) [] rs
 abbrev pub entry-at : List Entry → ℕ → Result Entry Refusal
 entry-at es i = cond (ltb i (length es)) (Ok (getD es i blank)) (Err NoPosition)
 
--- what a search for one position knows after a record: the entry that was appended there, else what it knew
+-- what is known of one position after a record: the entry that was appended there, else what was known
 abbrev pub found-after : Record → Bool → Entry → Entry
 found-after (Append e) reached known = cond reached e known
 found-after (Keep n) reached known = known

@@ -26,7 +26,7 @@ fn after(limit: u16, live: u16, made: Record) -> u16
     }
 }
 
-// What a search for one position knows after a record; `reached` says that the list before it ends there.
+// What is known of one position after a record; `reached` says that the list before it ends there.
 fn at_position(made: Record, reached: bool, known: Entry) -> Entry
     ensures { λ r. ⌜ r ≡ found-after made reached known ⌝ }
 {
