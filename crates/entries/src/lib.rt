@@ -1,0 +1,10 @@
+// Entries: how bytes spell them, and which lists of them a history may hold.
+mod histories;
+mod rules;
+mod spelling;
+
+pub use histories::is_faultless;
+pub use rules::body_fits;
+pub use rules::entry_fits;
+pub use rules::is_founding;
+pub use spelling::entry;
