@@ -1,2 +1,4 @@
+pub mod Journals
 pub mod Masks
 pub mod Places
+pub mod Replacements
