@@ -9,7 +9,7 @@ use Rattle.std.specs.declared.result.Result.the-variants.{Ok, Err}
 use Rattle.refusal.specs.declared.Refusal.{Refusal}
 use Rattle.refusal.specs.declared.Refusal.the-variants.{NoPosition}
 use Rattle.std.specs.Iters.{counting}
-use Rattle.std.specs.shelf.Lists.{joined}
+use Rattle.std.specs.shelf.Lists.{between, joined}
 use Rattle.orders.specs.Kinds.{between as in-range}
 use Rattle.journal.specs.declared.Entry.{Entry}
 use Rattle.journal.specs.declared.EntryKind.{EntryKind}
@@ -21,13 +21,17 @@ use Rattle.entries.specs.Bytes.{u32-at, u64-at, u32-bytes, u64-bytes}
 abbrev pub kind-numbered : ℕ → EntryKind
 kind-numbered n = cond (eqb n 1) Configuration Order
 
--- whether the bytes from place i on have the kind and the three zeros of an entry
-abbrev pub spelled : List ℕ → ℕ → Bool
-spelled bs i = in-range 1 2 (getD bs (i + 4) 0) && eqb (getD bs (i + 5) 0) 0 && eqb (getD bs (i + 6) 0) 0 && eqb (getD bs (i + 7) 0) 0
+-- whether 16 bytes have the kind and the three zeros of an entry
+abbrev pub spelled : List ℕ → Bool
+spelled bs = in-range 1 2 (getD bs 4 0) && eqb (getD bs 5 0) 0 && eqb (getD bs 6 0) 0 && eqb (getD bs 7 0) 0
 
--- the k-th entry that the bytes spell; what spells none stands for the blank entry, which no history may hold
+-- the entry that 16 bytes spell; what spells none stands for the blank entry, which no history may hold
+abbrev pub entry-in : List ℕ → Entry
+entry-in bs = cond (spelled bs) (record { epoch = u32-at bs 0; kind = kind-numbered (getD bs 4 0); body = u64-at bs 8 }) blank
+
+-- the entry at place k
 abbrev pub entry-at : List ℕ → ℕ → Entry
-entry-at bs k = cond (spelled bs (16 * k)) (record { epoch = u32-at bs (16 * k); kind = kind-numbered (getD bs (16 * k + 4) 0); body = u64-at bs (16 * k + 8) }) blank
+entry-at bs k = entry-in (between (16 * k) (16 * k + 16) bs)
 
 -- the entries that bytes spell; less than 16 bytes at the end spell none
 abbrev pub entries-of : List ℕ → List Entry

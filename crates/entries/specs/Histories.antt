@@ -25,10 +25,10 @@ is-configuration Order = false
 abbrev pub names-members : ℕ → ℕ → Bool
 names-members cabinets body = eqb (members-of body) body && ltb 0 (members-of body) && ltb (members-of body) (2 ^ cabinets)
 
--- whether a body is one of its kind: members, or the code of an order
+-- whether a body is one of its kind: members, or the 64-bit code of an order
 abbrev pub body-fits : (ℕ → Bool) → ℕ → EntryKind → ℕ → Bool
 body-fits codes cabinets Configuration body = names-members cabinets body
-body-fits codes cabinets Order body = codes body
+body-fits codes cabinets Order body = ltb body (2 ^ 64) && codes body
 
 -- whether an entry may follow one of epoch `last` in a list whose epochs go up to `most`
 abbrev pub entry-fits : (ℕ → Bool) → ℕ → ℕ → ℕ → Entry → Bool

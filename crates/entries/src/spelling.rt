@@ -1,7 +1,7 @@
 // Entries in bytes, by fixed-width reads.
 ghost use Prim.Native.Nat.{_+_, _*_, _≤_};
 ghost use Rattle.entries.specs.Bytes.{u32-at, u64-at};
-ghost use Rattle.entries.specs.Entries.{entries-of, entry-at, place-answer, spelled};
+ghost use Rattle.entries.specs.Entries.{entries-of, entry-at, entry-bytes, entry-in, place-answer, spelled};
 ghost use lib.ListN.{length};
 ghost use mathlib.Core.Path.{_≡_};
 use journal::Entry;
@@ -22,12 +22,12 @@ fn u64_at(bytes: &[u8], at: usize) -> u64
     u32_at(bytes, at) as u64 + ((u32_at(bytes, at + 4) as u64) << 32)
 }
 
-fn is_spelled(bytes: &[u8], at: usize) -> bool
-    requires { ⌜ at + 16 ≤ length (now bytes) ⌝ }
-    ensures { λ r. ⌜ r ≡ spelled (now (bytes .entry)) at ⌝ }
+fn is_spelled(bytes: &[u8]) -> bool
+    requires { ⌜ 16 ≤ length (now bytes) ⌝ }
+    ensures { λ r. ⌜ r ≡ spelled (now (bytes .entry)) ⌝ }
 {
-    let kind = bytes[at + 4];
-    1 <= kind && kind <= 2 && bytes[at + 5] == 0 && bytes[at + 6] == 0 && bytes[at + 7] == 0
+    let kind = bytes[4];
+    1 <= kind && kind <= 2 && bytes[5] == 0 && bytes[6] == 0 && bytes[7] == 0
 }
 
 // What stands for 16 bytes that spell no entry: its members are none, which is a fault.
@@ -37,24 +37,30 @@ const BLANK: Entry = Entry {
     body: 0,
 };
 
-pub(crate) fn entry_at(bytes: &[u8], k: usize) -> Entry
-    requires { ⌜ 16 * k + 16 ≤ length (now bytes) ⌝ }
-    ensures { λ r. ⌜ r ≡ entry-at (now (bytes .entry)) k ⌝ }
+fn entry_in(bytes: &[u8]) -> Entry
+    requires { ⌜ 16 ≤ length (now bytes) ⌝ }
+    ensures { λ r. ⌜ r ≡ entry-in (now (bytes .entry)) ⌝ }
 {
-    let at = 16 * k;
-    if !is_spelled(bytes, at) {
+    if !is_spelled(bytes) {
         return BLANK;
     }
-    let kind = if bytes[at + 4] == 1 {
+    let kind = if bytes[4] == 1 {
         EntryKind::Configuration
     } else {
         EntryKind::Order
     };
     Entry {
-        epoch: u32_at(bytes, at),
+        epoch: u32_at(bytes, 0),
         kind,
-        body: u64_at(bytes, at + 8),
+        body: u64_at(bytes, 8),
     }
+}
+
+pub(crate) fn entry_at(bytes: &[u8], k: usize) -> Entry
+    requires { ⌜ 16 * k + 16 ≤ length (now bytes) ⌝ }
+    ensures { λ r. ⌜ r ≡ entry-at (now (bytes .entry)) k ⌝ }
+{
+    entry_in(&bytes[16 * k..16 * k + 16])
 }
 
 // The entry at a place of a message's bytes: 50 where there is none.
@@ -66,4 +72,13 @@ pub fn entry(bytes: &[u8], place: usize) -> Result<Entry, Refusal>
     } else {
         Err(Refusal::NoPosition)
     }
+}
+
+// The 16 bytes of an entry.
+pub fn bytes_of(entry: Entry) -> [u8; 16]
+    ensures { λ r. ⌜ r ≡ entry-bytes entry ⌝ }
+{
+    let [e0, e1, e2, e3] = entry.epoch.to_le_bytes();
+    let [b0, b1, b2, b3, b4, b5, b6, b7] = entry.body.to_le_bytes();
+    [e0, e1, e2, e3, entry.kind.number(), 0, 0, 0, b0, b1, b2, b3, b4, b5, b6, b7]
 }
