@@ -1,7 +1,11 @@
 -- Numbers as bytes, the low byte first: what the layouts of entries and frames are made of. Assumes nothing.
 use mathlib.Core.List.{List, [], _∷_}
-use Prim.Native.Nat.{ℕ, _+_, _*_, _/_, _%_}
+use Prim.Native.Nat.{ℕ, _+_, _*_, _/_, _%_, _<_}
 use lib.ListN.{getD}
+
+-- every element is a byte
+abbrev pub Octets : List ℕ → Type 0
+Octets bs = (i : ℕ) → getD bs i 0 < 256
 
 -- the number in the two bytes from place i on
 abbrev pub u16-at : List ℕ → ℕ → ℕ

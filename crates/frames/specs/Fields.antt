@@ -26,9 +26,13 @@ and-then (Err e) f = Err e
 abbrev pub unless : Bool → Refusal → Result (Unit {0}) Refusal
 unless holds e = cond holds (Ok tt) (Err e)
 
--- 1 for a table of no or more than 16 cabinets, or a limit outside its bounds
+-- a table has 1 to 16 cabinets, a list at most 2 to 4000 entries
+abbrev pub bounds-fit : ℕ → ℕ → Bool
+bounds-fit cabinets limit = in-range 1 16 cabinets && in-range 2 4000 limit
+
+-- 1 for a table or a limit outside its bounds
 abbrev pub bounds-answer : ℕ → ℕ → Result (Unit {0}) Refusal
-bounds-answer cabinets limit = unless (in-range 1 16 cabinets && in-range 2 4000 limit) OutOfBounds
+bounds-answer cabinets limit = unless (bounds-fit cabinets limit) OutOfBounds
 
 -- the number of each kind of frame
 abbrev pub kind-number : FrameKind → ℕ
@@ -82,9 +86,13 @@ sender-fits cabinets kind epoch sender = ltb sender cabinets && ltb (owner-of ep
 abbrev pub count-answer : ℕ → Fields → Result (Unit {0}) Refusal
 count-answer limit f = unless (count-fits (f .kind) limit (f .count)) FrameShape
 
+-- whether every field lies in its range
+abbrev pub fields-fit : ℕ → ℕ → Fields → Bool
+fields-fit cabinets limit f = leb 1 (f .epoch) && sender-fits cabinets (f .kind) (f .epoch) (f .sender) && numbers-fit (f .kind) limit (f .epoch) (f .count) (f .first) (f .second)
+
 -- 13 for a field outside its range
 abbrev pub fields-answer : ℕ → ℕ → Fields → Result (Unit {0}) Refusal
-fields-answer cabinets limit f = unless (leb 1 (f .epoch) && sender-fits cabinets (f .kind) (f .epoch) (f .sender) && numbers-fit (f .kind) limit (f .epoch) (f .count) (f .first) (f .second)) FrameField
+fields-answer cabinets limit f = unless (fields-fit cabinets limit f) FrameField
 
 -- the bytes behind the first n
 abbrev pub behind : ℕ → List ℕ → List ℕ
