@@ -137,7 +137,7 @@ fn numbers_fit(limit: u16, fields: &Fields) -> bool
 }
 
 // 13 for a field outside its range.
-pub(crate) fn check_fields(cabinets: u8, limit: u16, fields: &Fields) -> Result<(), Refusal>
+pub fn check_fields(cabinets: u8, limit: u16, fields: &Fields) -> Result<(), Refusal>
     ensures { λ r. ⌜ r ≡ fields-answer cabinets limit (now (fields .entry)) ⌝ }
 {
     if 1 <= fields.epoch

@@ -49,6 +49,7 @@ impl FrameKind {
 
 pub use headers::check_bounds;
 pub use headers::check_count;
+pub use headers::check_fields;
 pub use reader::check_ranges;
 pub use reader::read;
 

@@ -1,7 +1,7 @@
 -- What is known of a letter that the writer accepts. Assumes nothing.
 use mathlib.Core.Path.{_≡_, refl, sym, ap, _∙_}
 use mathlib.Core.Bool.{Bool, true, false, _&&_}
-use Prim.Native.Nat.{ℕ, _≤_}
+use Prim.Native.Nat.{ℕ, _≤_, _<_}
 use native.Mathlib.Omega.{arith}
 use lib.Dec.{leb}
 use Rattle.std.proofs.shelf.Tests.{leb-true}
@@ -10,13 +10,15 @@ use Rattle.std.specs.declared.result.Result.{Result}
 use Rattle.std.specs.declared.result.Result.the-variants.{Ok, Err}
 use Rattle.refusal.specs.declared.Refusal.{Refusal}
 use Rattle.refusal.specs.declared.Refusal.the-variants.{FrameField}
+use Rattle.journal.specs.Lists.{owned}
+use Rattle.entries.proofs.Journals.{owned-tells}
 use Rattle.frames.specs.declared.Fields.{Fields}
 use Rattle.frames.specs.declared.FrameKind.{FrameKind}
 use Rattle.frames.specs.declared.FrameKind.the-variants.{Candidate, Promise, History, Entry, Acknowledge, Commit}
 use Rattle.frames.specs.Fields.{and-then, unless, bounds-fit, count-fits, fields-fit}
 use Rattle.frames.specs.Letters.{Letter, fields-of, entries-in, entries-fit, ranges-answer, letter-answer, frame-length}
 use Rattle.frames.proofs.Chains.{checked, and-then-ok, unless-ok}
-use Rattle.writing.specs.Writing.{room-answer, write-answer}
+use Rattle.writing.specs.Writing.{room-answer, write-answer, history-answer}
 
 -- a count that fits is at most the limit, or 1
 pub count-small : (k : FrameKind) (limit count : ℕ) → count-fits k limit count ≡ true → limit ≤ 4000 → count ≤ 4000
@@ -65,3 +67,13 @@ passed codes cabinets limit room l f h =
     let long = sent codes cabinets limit room l (through .0) (through .1) .long in
     let same = through .2 in
     (through .1 ∙ ap (λ m. Ok m) long, (let e : f ≡ fields-of l = cc in e))
+
+-- the same of a history from a journal, whose owner there is
+pub history-passed : (codes : ℕ → Bool) (cabinets limit owners o room : ℕ) (l : Letter) (f : Fields) → Ok f ≡ and-then (history-answer codes cabinets limit owners o room l) (λ _. Ok (fields-of l)) → (o < owners) × (write-answer codes cabinets limit room l ≡ Ok (frame-length (fields-of l .count))) × (history-answer codes cabinets limit owners o room l ≡ Ok (frame-length (fields-of l .count))) × (f ≡ fields-of l)
+history-passed codes cabinets limit owners o room l f h =
+    let through : (n : ℕ) × (history-answer codes cabinets limit owners o room l ≡ Ok n) × (_≡_ {A = Result Fields Refusal} (Ok (fields-of l)) (Ok f)) = and-then-ok _ _ f (sym h) in
+    let bounds : (bounds-fit cabinets limit ≡ true) × (owned owners o (write-answer codes cabinets limit room l) ≡ Ok (through .0)) = checked _ _ _ (through .0) (through .1) in
+    let owner = owned-tells owners o (write-answer codes cabinets limit room l) (through .0) (bounds .1) in
+    let long = sent codes cabinets limit room l (through .0) (owner .1) .long in
+    let same = through .2 in
+    (owner .0, owner .1 ∙ ap (λ m. Ok m) long, through .1 ∙ ap (λ m. Ok m) long, (let e : f ≡ fields-of l = cc in e))

@@ -8,11 +8,13 @@ use Rattle.std.specs.declared.result.Result.{Result}
 use Rattle.std.specs.declared.result.Result.the-variants.{Ok, Err}
 use Rattle.refusal.specs.declared.Refusal.{Refusal}
 use Rattle.refusal.specs.declared.Refusal.the-variants.{NoTray}
+use Rattle.journal.specs.declared.Entry.{Entry as ListEntry}
+use Rattle.journal.specs.Lists.{owned}
 use Rattle.frames.specs.declared.Fields.{Fields}
 use Rattle.frames.specs.declared.Message.{Message}
 use Rattle.frames.specs.declared.Message.the-variants.{Candidate, Promise, History, Entry, Acknowledge, Commit}
 use Rattle.frames.specs.Fields.{and-then, unless, bounds-answer}
-use Rattle.frames.specs.Letters.{Letter, fields-of, letter-answer, frame-length, frame-bytes}
+use Rattle.frames.specs.Letters.{Letter, history, fields-of, letter-answer, frame-length, frame-bytes}
 
 -- 3 for a buffer that is shorter than the frame
 abbrev pub room-answer : ℕ → Fields → Result (Unit {0}) Refusal
@@ -43,3 +45,11 @@ borrowed (History mark entries) = entries .now
 borrowed (Entry position mark e) = e .now
 borrowed (Acknowledge length) = []
 borrowed (Commit mark) = []
+
+-- the letter of a history that is an owner's list
+abbrev pub history-of : ℕ → ℕ → ℕ → List ListEntry → Letter
+history-of sender epoch mark es = record { sender = sender; epoch = epoch; content = history mark es }
+
+-- what the writer answers for a journal of that many owners: as for any letter, and 2 behind 1 where there is no such owner
+abbrev pub history-answer : (ℕ → Bool) → ℕ → ℕ → ℕ → ℕ → ℕ → Letter → Result ℕ Refusal
+history-answer codes cabinets limit owners o room l = and-then (bounds-answer cabinets limit) (λ _. owned owners o (write-answer codes cabinets limit room l))

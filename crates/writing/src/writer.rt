@@ -42,7 +42,7 @@ fn borrowed<'a>(message: Message<'a>) -> &'a [u8]
     }
 }
 
-fn check_room(room: usize, fields: &Fields) -> Result<(), Refusal>
+pub(crate) fn check_room(room: usize, fields: &Fields) -> Result<(), Refusal>
     ensures { λ r. ⌜ r ≡ room-answer room (now (fields .entry)) ⌝ }
 {
     if room >= 24 && (room - 24) / 16 >= fields.count {
