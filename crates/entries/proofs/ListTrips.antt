@@ -47,12 +47,12 @@ entries-back es fit =
     let bs : List ℕ = entries-bytes es in
     let n : length bs / 16 ≡ length es = omega (arith, bytes-length es) in
     ext-getD blank (entries-of bs) es (entries-length bs ∙ n)
-      (λ k h.
-        let there : k < length es = omega (arith, entries-length bs) in
-        let width : 16 * k + 16 - 16 * k ≡ 16 = omega arith in
-        entries-at bs k (omega (arith, entries-length bs))
-        ∙ ap entry-in (ap (λ w. take w (drop (16 * k) bs)) width ∙ bytes-at es k there)
-        ∙ entry-back (getD es k blank) (fit k there))
+    (λ k h.
+    let there : k < length es = omega (arith, entries-length bs) in
+    let width : 16 * k + 16 - 16 * k ≡ 16 = omega arith in
+    entries-at bs k (omega (arith, entries-length bs))
+    ∙ ap entry-in (ap (λ w. take w (drop (16 * k) bs)) width ∙ bytes-at es k there)
+    ∙ entry-back (getD es k blank) (fit k there))
 
 -- what has a body that fits is no blank: its bytes spell it
 pub fits-spelled : (codes : ℕ → Bool) (cabinets : ℕ) (bs : List ℕ) → body-fits codes cabinets (entry-in bs .kind) (entry-in bs .body) ≡ true → spelled bs ≡ true
@@ -105,7 +105,7 @@ spelled-out bs (suc n) h small each =
 pub entries-again : (codes : ℕ → Bool) (cabinets : ℕ) (bs : List ℕ) → ((i : ℕ) → getD bs i 0 < 256) → ((k : ℕ) → k < length (entries-of bs) → body-fits codes cabinets (getD (entries-of bs) k blank .kind) (getD (entries-of bs) k blank .body) ≡ true) → entries-bytes (entries-of bs) ≡ take (16 * (length bs / 16)) bs
 entries-again codes cabinets bs small fits =
     spelled-out bs (length bs / 16) (omega arith) small
-      (λ k h.
-        let is = entries-at bs k h in
-        fits-spelled codes cabinets (between (16 * k) (16 * k + 16) bs)
-          (sym (ap (λ (e : Entry). body-fits codes cabinets (e .kind) (e .body)) is) ∙ fits k (omega (arith, entries-length bs))))
+    (λ k h.
+    let is = entries-at bs k h in
+    fits-spelled codes cabinets (between (16 * k) (16 * k + 16) bs)
+    (sym (ap (λ (e : Entry). body-fits codes cabinets (e .kind) (e .body)) is) ∙ fits k (omega (arith, entries-length bs))))

@@ -62,7 +62,7 @@ entry-again bs long small s =
     let read : entry-in bs ≡ record { epoch = u32-at bs 0; kind = kind-numbered (getD bs 4 0); body = u64-at bs 8 } = cond-true (spelled bs) _ blank s in
     ap entry-bytes read
     ∙ same-16 _ _ _ _ _ _ _ _ _
-        (u32-again (getD bs 0 0) (getD bs 1 0) (getD bs 2 0) (getD bs 3 0) (small 0) (small 1) (small 2) (small 3))
-        (kind-again (getD bs 4 0) (m .0) (m .1)) (sym (m .2)) (sym (m .3)) (sym (m .4))
-        (u64-again (getD bs 8 0) (getD bs 9 0) (getD bs 10 0) (getD bs 11 0) (getD bs 12 0) (getD bs 13 0) (getD bs 14 0) (getD bs 15 0) (small 8) (small 9) (small 10) (small 11) (small 12) (small 13) (small 14) (small 15))
+    (u32-again (getD bs 0 0) (getD bs 1 0) (getD bs 2 0) (getD bs 3 0) (small 0) (small 1) (small 2) (small 3))
+    (kind-again (getD bs 4 0) (m .0) (m .1)) (sym (m .2)) (sym (m .3)) (sym (m .4))
+    (u64-again (getD bs 8 0) (getD bs 9 0) (getD bs 10 0) (getD bs 11 0) (getD bs 12 0) (getD bs 13 0) (getD bs 14 0) (getD bs 15 0) (small 8) (small 9) (small 10) (small 11) (small 12) (small 13) (small 14) (small 15))
     ∙ sym (sixteen bs long)

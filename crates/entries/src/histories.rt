@@ -37,7 +37,12 @@ pub fn is_faultless<K: OrderKind>(cabinets: u8, most: u32, bytes: &[u8]) -> bool
 }
 
 // The same of an owner's list in a journal: 2 where there is no such owner.
-pub fn is_list_faultless<K: OrderKind, J: Journal>(cabinets: u8, most: u32, journal: &J, owner: u16) -> Result<bool, Refusal>
+pub fn is_list_faultless<K: OrderKind, J: Journal>(
+    cabinets: u8,
+    most: u32,
+    journal: &J,
+    owner: u16,
+) -> Result<bool, Refusal>
     ensures { λ r. ⌜ r ≡ owned (J·Journal .owners (now (journal .entry))) owner (Ok (faultless (codes-of (K·OrderKind .decode)) cabinets most (J·Journal .lists (now (journal .entry)) owner))) ⌝ }
 {
     let count = journal.length(owner)?;

@@ -80,5 +80,22 @@ pub fn bytes_of(entry: Entry) -> [u8; 16]
 {
     let [e0, e1, e2, e3] = entry.epoch.to_le_bytes();
     let [b0, b1, b2, b3, b4, b5, b6, b7] = entry.body.to_le_bytes();
-    [e0, e1, e2, e3, entry.kind.number(), 0, 0, 0, b0, b1, b2, b3, b4, b5, b6, b7]
+    [
+        e0,
+        e1,
+        e2,
+        e3,
+        entry.kind.number(),
+        0,
+        0,
+        0,
+        b0,
+        b1,
+        b2,
+        b3,
+        b4,
+        b5,
+        b6,
+        b7,
+    ]
 }

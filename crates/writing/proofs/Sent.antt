@@ -58,7 +58,8 @@ sent codes cabinets limit room l n accepted =
       counted = third .0;
       ranged = fourth .0;
       faultless = unless-ok _ _ (fourth .1);
-      long = cc }
+      long = cc;
+    }
 
 -- the fields that the checks hand on are the letter's
 pub passed : (codes : ℕ → Bool) (cabinets limit room : ℕ) (l : Letter) (f : Fields) → Ok f ≡ and-then (write-answer codes cabinets limit room l) (λ _. Ok (fields-of l)) → (write-answer codes cabinets limit room l ≡ Ok (frame-length (fields-of l .count))) × (f ≡ fields-of l)

@@ -23,10 +23,10 @@ room-answer room f = unless (leb (frame-length (f .count)) room) NoTray
 -- what the writer answers: the refusals in the order of their checks, or the frame's length
 abbrev pub write-answer : (ℕ → Bool) → ℕ → ℕ → ℕ → Letter → Result ℕ Refusal
 write-answer codes cabinets limit room l =
-  and-then (bounds-answer cabinets limit) (λ _.
-  and-then (room-answer room (fields-of l)) (λ _.
-  and-then (letter-answer codes cabinets limit l) (λ _.
-  Ok (frame-length (fields-of l .count)))))
+    and-then (bounds-answer cabinets limit) (λ _.
+    and-then (room-answer room (fields-of l)) (λ _.
+    and-then (letter-answer codes cabinets limit l) (λ _.
+    Ok (frame-length (fields-of l .count)))))
 
 -- the buffer afterwards: the frame with zeros behind it, or what was there
 abbrev pub written : List ℕ → Letter → Result ℕ Refusal → List ℕ

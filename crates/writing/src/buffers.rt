@@ -33,7 +33,30 @@ pub fn header_bytes(fields: &Fields) -> [u8; 24]
     let [s0, s1, s2, s3] = fields.second.to_le_bytes();
     let [l0, l1] = (24 + 16 * count).to_le_bytes();
     [
-        fields.kind.number(), fields.sender, c0, c1, e0, e1, e2, e3, f0, f1, f2, f3, s0, s1, s2, s3, l0, l1, 0, 0, 0, 0, 0, 0,
+        fields.kind.number(),
+        fields.sender,
+        c0,
+        c1,
+        e0,
+        e1,
+        e2,
+        e3,
+        f0,
+        f1,
+        f2,
+        f3,
+        s0,
+        s1,
+        s2,
+        s3,
+        l0,
+        l1,
+        0,
+        0,
+        0,
+        0,
+        0,
+        0,
     ]
 }
 

@@ -40,13 +40,28 @@ fn put_list<J: Journal>(journal: &J, owner: u16, out: &mut [u8]) -> Result<(), R
 }
 
 // The fields of the history's frame, once nothing speaks against it.
-fn check_history<K: OrderKind, J: Journal>(cabinets: u8, sender: u8, epoch: u32, mark: u32, journal: &J, owner: u16, room: usize) -> Result<Fields, Refusal>
+fn check_history<K: OrderKind, J: Journal>(
+    cabinets: u8,
+    sender: u8,
+    epoch: u32,
+    mark: u32,
+    journal: &J,
+    owner: u16,
+    room: usize,
+) -> Result<Fields, Refusal>
     ensures { λ r. ⌜ r ≡ and-then (history-answer (codes-of (K·OrderKind .decode)) cabinets (J·Journal .limit (now (journal .entry))) (J·Journal .owners (now (journal .entry))) owner room (history-of sender epoch mark (J·Journal .lists (now (journal .entry)) owner))) (λ _. Ok (fields-of (history-of sender epoch mark (J·Journal .lists (now (journal .entry)) owner)))) ⌝ }
 {
     let limit = journal.limit();
     check_bounds(cabinets, limit)?;
     let count = journal.length(owner)? as usize;
-    let fields = Fields { kind: FrameKind::History, sender, count, epoch, first: mark, second: 0 };
+    let fields = Fields {
+        kind: FrameKind::History,
+        sender,
+        count,
+        epoch,
+        first: mark,
+        second: 0,
+    };
     check_room(room, &fields)?;
     check_count(limit, &fields)?;
     check_fields(cabinets, limit, &fields)?;
@@ -56,7 +71,12 @@ fn check_history<K: OrderKind, J: Journal>(cabinets: u8, sender: u8, epoch: u32,
     Ok(fields)
 }
 
-fn put_history<J: Journal>(fields: &Fields, journal: &J, owner: u16, out: &mut [u8]) -> Result<u16, Refusal>
+fn put_history<J: Journal>(
+    fields: &Fields,
+    journal: &J,
+    owner: u16,
+    out: &mut [u8],
+) -> Result<u16, Refusal>
     requires owner { ⌜ owner < owners (now journal) ⌝ }
     requires count { ⌜ now fields .count ≡ length (lists (now journal) owner) ⌝ }
     requires small { ⌜ now fields .count ≤ 4000 ⌝ }
@@ -73,7 +93,15 @@ fn put_history<J: Journal>(fields: &Fields, journal: &J, owner: u16, out: &mut [
 
 // An owner's whole list as a history, straight from the journal into the caller's buffer.
 // Refused as any message is, and by 2 where there is no such owner; a refused call leaves the buffer as it was.
-pub fn write_history<K: OrderKind, J: Journal>(cabinets: u8, sender: u8, epoch: u32, mark: u32, journal: &J, owner: u16, out: &mut [u8]) -> Result<u16, Refusal>
+pub fn write_history<K: OrderKind, J: Journal>(
+    cabinets: u8,
+    sender: u8,
+    epoch: u32,
+    mark: u32,
+    journal: &J,
+    owner: u16,
+    out: &mut [u8],
+) -> Result<u16, Refusal>
     ensures answer { λ r. ⌜ r ≡ history-answer (codes-of (K·OrderKind .decode)) cabinets (J·Journal .limit (now (journal .entry))) (J·Journal .owners (now (journal .entry))) owner (length (now (out .entry))) (history-of sender epoch mark (J·Journal .lists (now (journal .entry)) owner)) ⌝ }
     ensures buffer { λ _. ⌜ now (out .exit) ≡ written (now (out .entry)) (history-of sender epoch mark (J·Journal .lists (now (journal .entry)) owner)) (history-answer (codes-of (K·OrderKind .decode)) cabinets (J·Journal .limit (now (journal .entry))) (J·Journal .owners (now (journal .entry))) owner (length (now (out .entry))) (history-of sender epoch mark (J·Journal .lists (now (journal .entry)) owner))) ⌝ }
 {

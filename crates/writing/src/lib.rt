@@ -5,4 +5,3 @@ mod writer;
 
 pub use journals::write_history;
 pub use writer::write;
-

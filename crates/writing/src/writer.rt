@@ -23,12 +23,54 @@ fn fields_of(frame: &Frame<'_>) -> Fields
 {
     let (sender, epoch) = (frame.sender, frame.epoch);
     match frame.message {
-        Message::Candidate { accepted, length } => Fields { kind: FrameKind::Candidate, sender, count: 0, epoch, first: accepted, second: length },
-        Message::Promise => Fields { kind: FrameKind::Promise, sender, count: 0, epoch, first: 0, second: 0 },
-        Message::History { mark, entries } => Fields { kind: FrameKind::History, sender, count: entries.len() / 16, epoch, first: mark, second: 0 },
-        Message::Entry { position, mark, .. } => Fields { kind: FrameKind::Entry, sender, count: 1, epoch, first: position, second: mark },
-        Message::Acknowledge { length } => Fields { kind: FrameKind::Acknowledge, sender, count: 0, epoch, first: length, second: 0 },
-        Message::Commit { mark } => Fields { kind: FrameKind::Commit, sender, count: 0, epoch, first: mark, second: 0 },
+        Message::Candidate { accepted, length } => Fields {
+            kind: FrameKind::Candidate,
+            sender,
+            count: 0,
+            epoch,
+            first: accepted,
+            second: length,
+        },
+        Message::Promise => Fields {
+            kind: FrameKind::Promise,
+            sender,
+            count: 0,
+            epoch,
+            first: 0,
+            second: 0,
+        },
+        Message::History { mark, entries } => Fields {
+            kind: FrameKind::History,
+            sender,
+            count: entries.len() / 16,
+            epoch,
+            first: mark,
+            second: 0,
+        },
+        Message::Entry { position, mark, .. } => Fields {
+            kind: FrameKind::Entry,
+            sender,
+            count: 1,
+            epoch,
+            first: position,
+            second: mark,
+        },
+        Message::Acknowledge { length } => Fields {
+            kind: FrameKind::Acknowledge,
+            sender,
+            count: 0,
+            epoch,
+            first: length,
+            second: 0,
+        },
+        Message::Commit { mark } => Fields {
+            kind: FrameKind::Commit,
+            sender,
+            count: 0,
+            epoch,
+            first: mark,
+            second: 0,
+        },
     }
 }
 
@@ -38,7 +80,10 @@ fn borrowed<'a>(message: Message<'a>) -> &'a [u8]
     match message {
         Message::History { entries, .. } => entries,
         Message::Entry { entry, .. } => entry,
-        Message::Candidate { .. } | Message::Promise | Message::Acknowledge { .. } | Message::Commit { .. } => &[],
+        Message::Candidate { .. }
+        | Message::Promise
+        | Message::Acknowledge { .. }
+        | Message::Commit { .. } => &[],
     }
 }
 
@@ -62,7 +107,12 @@ fn check_letter<K: OrderKind>(cabinets: u8, limit: u16, frame: &Frame<'_>) -> Re
 }
 
 // The fields of the frame, once nothing speaks against it.
-fn check<K: OrderKind>(cabinets: u8, limit: u16, frame: &Frame<'_>, room: usize) -> Result<Fields, Refusal>
+fn check<K: OrderKind>(
+    cabinets: u8,
+    limit: u16,
+    frame: &Frame<'_>,
+    room: usize,
+) -> Result<Fields, Refusal>
     ensures { λ r. ⌜ r ≡ and-then (write-answer (codes-of decode) cabinets limit room (letter (now (frame .entry)))) (λ _. Ok (fields-of (letter (now (frame .entry))))) ⌝ }
 {
     check_bounds(cabinets, limit)?;
@@ -74,7 +124,12 @@ fn check<K: OrderKind>(cabinets: u8, limit: u16, frame: &Frame<'_>, room: usize)
 
 // The message as a frame in the caller's buffer, with zeros behind it; answers the frame's length.
 // A refused call leaves the buffer as it was.
-pub fn write<K: OrderKind>(cabinets: u8, limit: u16, frame: &Frame<'_>, out: &mut [u8]) -> Result<u16, Refusal>
+pub fn write<K: OrderKind>(
+    cabinets: u8,
+    limit: u16,
+    frame: &Frame<'_>,
+    out: &mut [u8],
+) -> Result<u16, Refusal>
     ensures answer { λ r. ⌜ r ≡ write-answer (codes-of decode) cabinets limit (length (now (out .entry))) (letter (now (frame .entry))) ⌝ }
     ensures buffer { λ _. ⌜ now (out .exit) ≡ written (now (out .entry)) (letter (now (frame .entry))) (write-answer (codes-of decode) cabinets limit (length (now (out .entry))) (letter (now (frame .entry)))) ⌝ }
 {

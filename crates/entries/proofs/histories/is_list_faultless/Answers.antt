@@ -21,7 +21,7 @@ returns-then-not-entry-fits g c =
     let at = entry-tells owners o (c .loop-k .k) (c .in-Continue-entry-2 .entry) ls (c .in-Continue-entry-2 .ensures tt) in
     let stops = goes-on-not codes (c .args .cabinets) (c .args .most) (c .loop-k .last) (ls o) (c .loop-k .k) (c .in-Continue-entry-2 .entry) (at .0) (at .1) (sym (c .if-not-entry-fits .ensures tt)) in
     owned-ok owners o false (faultless codes (c .args .cabinets) (c .args .most) (ls o)) (count .0)
-      (sym (and-right (opens (ls o)) (goes-on codes (c .args .cabinets) (c .args .most) 0 (ls o)) (sym (c .loop-k .inv) ∙ stops)))
+    (sym (and-right (opens (ls o)) (goes-on codes (c .args .cabinets) (c .args .most) 0 (ls o)) (sym (c .loop-k .inv) ∙ stops)))
 
 pub loop-k-again : need.loop-k-again
 loop-k-again g c =
@@ -45,4 +45,4 @@ returns g c =
     let over : length (ls o) ≤ c .loop-k .k = omega (arith, count .1, c .loop-k-test .left) in
     let all = goes-on-all codes (c .args .cabinets) (c .args .most) (c .loop-k .last) (ls o) (c .loop-k .k) over in
     owned-ok owners o true (faultless codes (c .args .cabinets) (c .args .most) (ls o)) (count .0)
-      (sym (and-from (opens (ls o)) (goes-on codes (c .args .cabinets) (c .args .most) 0 (ls o)) starts (sym (c .loop-k .inv) ∙ all)))
+    (sym (and-from (opens (ls o)) (goes-on codes (c .args .cabinets) (c .args .most) 0 (ls o)) starts (sym (c .loop-k .inv) ∙ all)))

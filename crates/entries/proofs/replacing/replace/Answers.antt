@@ -36,11 +36,13 @@ loop-k-again g c =
     let ls : ℕ → List Entry = g .J·Journal .lists (c .loop-k .journal) in
     let inv = c .loop-k .inv in
     let is : getD es (c .loop-k .k) blank ≡ c .entry-at .result = entries-at bs (c .loop-k .k) (c .loop-k-test .taken) ∙ sym (c .entry-at .ensures) in
-    let n = entries-length bs in
-    (c .append .ensures .owners ∙ inv .0, c .append .ensures .limit ∙ inv .1,
-     begun-more (g .J·Journal .owners (c .loop-k .journal)) (g .J·Journal .limit (c .loop-k .journal)) o (c .loop-k .k) (c .entry-at .result) es
-       (g .J·Journal .lists (c .keep .last .self)) ls (g .J·Journal .lists (c .append .last .self))
-       (omega (arith, inv .0, c .keep .ensures .owners)) (omega arith) (omega (arith, inv .1, c .keep .ensures .limit)) is (inv .2) (c .append .ensures .lists))
+    let n = entries-length bs in (
+      c .append .ensures .owners ∙ inv .0,
+      c .append .ensures .limit ∙ inv .1,
+      begun-more (g .J·Journal .owners (c .loop-k .journal)) (g .J·Journal .limit (c .loop-k .journal)) o (c .loop-k .k) (c .entry-at .result) es
+          (g .J·Journal .lists (c .keep .last .self)) ls (g .J·Journal .lists (c .append .last .self))
+          (omega (arith, inv .0, c .keep .ensures .owners)) (omega arith) (omega (arith, inv .1, c .keep .ensures .limit)) is (inv .2) (c .append .ensures .lists),
+    )
 
 pub returns : need.returns
 returns g c =
@@ -53,7 +55,8 @@ returns g c =
     record {
       answer = grind (arith, tells);
       lists = begun-all (g .J·Journal .owners (c .args .journal .now)) (g .J·Journal .limit (c .args .journal .now)) (c .args .owner) (c .loop-k .k) es
-        (g .J·Journal .lists (c .args .journal .now)) (g .J·Journal .lists (c .keep .last .self)) (g .J·Journal .lists (c .loop-k .journal))
-        owned (omega arith) small (c .keep .ensures .lists) (inv .2);
+          (g .J·Journal .lists (c .args .journal .now)) (g .J·Journal .lists (c .keep .last .self)) (g .J·Journal .lists (c .loop-k .journal))
+          owned (omega arith) small (c .keep .ensures .lists) (inv .2);
       owners = inv .0 ∙ c .keep .ensures .owners;
-      limit = inv .1 ∙ c .keep .ensures .limit }
+      limit = inv .1 ∙ c .keep .ensures .limit;
+    }

@@ -20,7 +20,8 @@ returns c =
       octets = λ i. c .typed .bytes i .fits;
       answer = refl;
       buffer =
-        frame-laid out (c .put .last .out) (c .put-2 .last .out) (c .clear .last .out) (c .header-bytes .result) part n
+          frame-laid out (c .put .last .out) (c .put-2 .last .out) (c .clear .last .out) (c .header-bytes .result) part n
           (ap length header) long (c .pre .room) (c .put .ensures) (c .put-2 .ensures) (c .clear .ensures)
-        ∙ ap (λ (h : List ℕ). (h ++ part) ++ replicate (length out - (24 + n)) 0) header
-        ∙ ap (λ m. (header-bytes (c .args .fields .now) ++ take m (c .args .bytes .now)) ++ replicate {A = ℕ} (length out - (24 + n)) 0) whole }
+          ∙ ap (λ (h : List ℕ). (h ++ part) ++ replicate (length out - (24 + n)) 0) header
+          ∙ ap (λ m. (header-bytes (c .args .fields .now) ++ take m (c .args .bytes .now)) ++ replicate {A = ℕ} (length out - (24 + n)) 0) whole;
+    }

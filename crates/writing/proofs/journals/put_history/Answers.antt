@@ -19,6 +19,7 @@ returns g c =
     record {
       answer = refl;
       buffer =
-        frame-laid out (c .put .last .out) (c .put-list .last .out) (c .clear .last .out) (c .header-bytes .result) part n
+          frame-laid out (c .put .last .out) (c .put-list .last .out) (c .clear .last .out) (c .header-bytes .result) part n
           (ap length header) long (c .pre .room) (c .put .ensures) (c .put-list .ensures .buffer) (c .clear .ensures)
-        ∙ ap (λ (h : List ℕ). (h ++ part) ++ replicate (length out - (24 + n)) 0) header }
+          ∙ ap (λ (h : List ℕ). (h ++ part) ++ replicate (length out - (24 + n)) 0) header;
+    }

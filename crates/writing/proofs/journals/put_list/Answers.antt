@@ -42,4 +42,5 @@ returns g c =
     let over′ : length (ls (c .args .owner)) ≤ c .loop-k .k = omega (arith, count .1, c .loop-k-test .left) in
     record {
       answer = refl;
-      buffer = c .loop-k .inv ∙ ap (λ (es : List Entry). over (c .args .out .now) 24 (entries-bytes es)) (take-all (c .loop-k .k) (ls (c .args .owner)) over′) }
+      buffer = c .loop-k .inv ∙ ap (λ (es : List Entry). over (c .args .out .now) 24 (entries-bytes es)) (take-all (c .loop-k .k) (ls (c .args .owner)) over′);
+    }

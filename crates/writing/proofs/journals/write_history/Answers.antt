@@ -26,7 +26,8 @@ returns-in-Break-fields g c =
     let refused : answer ≡ Err (c .in-Break-fields .field-0 .0) = and-then-err answer (fields-of l) (c .in-Break-fields .field-0 .0) (sym (c .in-Break-fields .ensures tt)) in
     record {
       answer = p .1 ∙ ap (λ (e : Refusal). Err e) (p .2) ∙ sym refused;
-      buffer = sym (ap (written out l) refused) }
+      buffer = sym (ap (written out l) refused);
+    }
 
 pub put-history-requires : need.put-history-requires
 put-history-requires g c κs =
@@ -41,7 +42,8 @@ put-history-requires g c κs =
       owner = pass .0;
       count = count;
       small = omega (arith, count, told .small);
-      room = omega (arith, count, told .within) }
+      room = omega (arith, count, told .within);
+    }
 
 pub returns : need.returns
 returns g c =
@@ -53,6 +55,7 @@ returns g c =
     record {
       answer = c .put-history .ensures .answer ∙ ap (λ (f : Fields). Ok (frame-length (f .count))) (pass .3) ∙ sym (pass .2);
       buffer =
-        c .put-history .ensures .buffer
-        ∙ ap (λ (f : Fields). (header-bytes f ++ entries-bytes (entries-in (l .content))) ++ replicate (length out - frame-length (f .count)) 0) (pass .3)
-        ∙ sym (ap (written out l) (pass .2)) }
+          c .put-history .ensures .buffer
+          ∙ ap (λ (f : Fields). (header-bytes f ++ entries-bytes (entries-in (l .content))) ++ replicate (length out - frame-length (f .count)) 0) (pass .3)
+          ∙ sym (ap (written out l) (pass .2));
+    }

@@ -28,7 +28,8 @@ returns-in-Break-fields g c =
     let refused : answer ≡ Err (c .in-Break-fields .field-0 .0) = and-then-err answer (fields-of l) (c .in-Break-fields .field-0 .0) (sym (c .in-Break-fields .ensures tt)) in
     record {
       answer = p .1 ∙ ap (λ (e : Refusal). Err e) (p .2) ∙ sym refused;
-      buffer = sym (ap (written out l) refused) }
+      buffer = sym (ap (written out l) refused);
+    }
 
 pub put-frame-requires : need.put-frame-requires
 put-frame-requires g c κs =
@@ -42,7 +43,8 @@ put-frame-requires g c κs =
     record {
       count = omega (arith, count, told .small);
       bytes = omega (arith, count, enough, ap length (c .borrowed .ensures));
-      room = omega (arith, count, told .within) }
+      room = omega (arith, count, told .within);
+    }
 
 pub returns : need.returns
 returns g c =
@@ -58,8 +60,9 @@ returns g c =
     record {
       answer = ap (λ m. Ok m) (c .put-frame .ensures .answer ∙ ap (λ (f : Fields). frame-length (f .count)) (pass .1)) ∙ sym (pass .0);
       buffer =
-        c .put-frame .ensures .buffer
-        ∙ ap (λ (f : Fields). (header-bytes f ++ take (16 * f .count) (c .borrowed .result .now)) ++ replicate (room - frame-length (f .count)) 0) (pass .1)
-        ∙ ap (λ (xs : List ℕ). (header-bytes (fields-of l) ++ take (16 * fields-of l .count) xs) ++ replicate (room - frame-length (fields-of l .count)) 0) (c .borrowed .ensures)
-        ∙ ap (λ (xs : List ℕ). (header-bytes (fields-of l) ++ xs) ++ replicate (room - frame-length (fields-of l .count)) 0) (sym same)
-        ∙ sym (ap (written out l) (pass .0)) }
+          c .put-frame .ensures .buffer
+          ∙ ap (λ (f : Fields). (header-bytes f ++ take (16 * f .count) (c .borrowed .result .now)) ++ replicate (room - frame-length (f .count)) 0) (pass .1)
+          ∙ ap (λ (xs : List ℕ). (header-bytes (fields-of l) ++ take (16 * fields-of l .count) xs) ++ replicate (room - frame-length (fields-of l .count)) 0) (c .borrowed .ensures)
+          ∙ ap (λ (xs : List ℕ). (header-bytes (fields-of l) ++ xs) ++ replicate (room - frame-length (fields-of l .count)) 0) (sym same)
+          ∙ sym (ap (written out l) (pass .0));
+    }
