@@ -18,7 +18,7 @@ use Rattle.entries.specs.Entries.{entries-bytes}
 use Rattle.entries.specs.Histories.{body-fits, faultless}
 use Rattle.frames.specs.Fields.{and-then, unless, kind-number, count-answer, fields-answer}
 
--- what a letter says; its kind is the number of the case, from 1 to 6, and its values are the first and second number and the entries
+-- what a letter says
 pub data Content : Type 0 where
   candidate : (accepted length : ℕ) → Content
   promise : Content
@@ -33,41 +33,25 @@ pub record Letter : Type 0 where
   pub epoch : ℕ
   pub content : Content
 
--- the kind of a content
-abbrev pub kind-of : Content → FrameKind
-kind-of (candidate accepted length) = Candidate
-kind-of promise = Promise
-kind-of (history mark es) = History
-kind-of (entry position mark e) = Entry
-kind-of (acknowledge length) = Acknowledge
-kind-of (commit mark) = Commit
+-- what of a content goes into a frame
+pub record Carried : Type 0 where
+  pub kind : FrameKind
+  pub first : ℕ
+  pub second : ℕ
+  pub entries : List ListEntry
 
--- the first number of a content
-abbrev pub first-of : Content → ℕ
-first-of (candidate accepted length) = accepted
-first-of promise = 0
-first-of (history mark es) = mark
-first-of (entry position mark e) = position
-first-of (acknowledge length) = length
-first-of (commit mark) = mark
-
--- the second number of a content
-abbrev pub second-of : Content → ℕ
-second-of (candidate accepted length) = length
-second-of promise = 0
-second-of (history mark es) = 0
-second-of (entry position mark e) = mark
-second-of (acknowledge length) = 0
-second-of (commit mark) = 0
+-- the kind and the values of each content
+abbrev pub carried : Content → Carried
+carried (candidate accepted length) = record { kind = Candidate; first = accepted; second = length; entries = [] }
+carried promise = record { kind = Promise; first = 0; second = 0; entries = [] }
+carried (history mark es) = record { kind = History; first = mark; second = 0; entries = es }
+carried (entry position mark e) = record { kind = Entry; first = position; second = mark; entries = e ∷ [] }
+carried (acknowledge length) = record { kind = Acknowledge; first = length; second = 0; entries = [] }
+carried (commit mark) = record { kind = Commit; first = mark; second = 0; entries = [] }
 
 -- the entries that a content brings
 abbrev pub entries-in : Content → List ListEntry
-entries-in (candidate accepted length) = []
-entries-in promise = []
-entries-in (history mark es) = es
-entries-in (entry position mark e) = e ∷ []
-entries-in (acknowledge length) = []
-entries-in (commit mark) = []
+entries-in c = carried c .entries
 
 -- the content of a kind with these numbers and entries
 abbrev pub content-of : FrameKind → ℕ → ℕ → List ListEntry → Content
@@ -84,7 +68,7 @@ letter-of f es = record { sender = f .sender; epoch = f .epoch; content = conten
 
 -- the fields of a letter's frame
 abbrev pub fields-of : Letter → Fields
-fields-of l = record { kind = kind-of (l .content); sender = l .sender; count = length (entries-in (l .content)); epoch = l .epoch; first = first-of (l .content); second = second-of (l .content) }
+fields-of l = record { kind = carried (l .content) .kind; sender = l .sender; count = length (entries-in (l .content)); epoch = l .epoch; first = carried (l .content) .first; second = carried (l .content) .second }
 
 -- whether these entries are the faultless ones that a frame of the kind and epoch asks for
 abbrev pub entries-fit : (ℕ → Bool) → ℕ → FrameKind → ℕ → List ListEntry → Bool

@@ -30,7 +30,7 @@ use Rattle.entries.proofs.Digits.{u16-back, u32-back}
 use Rattle.entries.proofs.Trips.{Fits-fields}
 use Rattle.entries.proofs.ListTrips.{bytes-length, entries-back, goes-on-each}
 use Rattle.frames.specs.Fields.{and-then, unless, bounds-fit, bounds-answer, kind-number, kind-numbered, count-fits, numbers-fit, fields-fit, zeros-in, numbers-of, header-of, shape-answer}
-use Rattle.frames.specs.Letters.{Letter, Content, candidate, promise, history, entry, acknowledge, commit, fields-of, letter-of, content-of, entries-in, kind-of, first-of, second-of, entries-fit, ranges-answer, frame-length, header-bytes, frame-bytes}
+use Rattle.frames.specs.Letters.{Letter, Content, candidate, promise, history, entry, acknowledge, commit, fields-of, letter-of, carried, content-of, entries-in, entries-fit, ranges-answer, frame-length, header-bytes, frame-bytes}
 use Rattle.frames.specs.Reading.{decode, part-of}
 use Rattle.frames.proofs.Chains.{ok-unless}
 use Rattle.writing.specs.Writing.{write-answer}
@@ -108,7 +108,7 @@ numbers-small Acknowledge limit epoch count first second fits l c e = grind (ari
 numbers-small Commit limit epoch count first second fits l c e = grind (arith, tells)
 
 -- and so have its entries
-entries-small : (codes : ℕ → Bool) (cabinets epoch : ℕ) → epoch < 4294967296 → (c : Content) → entries-fit codes cabinets (kind-of c) epoch (entries-in c) ≡ true → (k : ℕ) → k < length (entries-in c) → Fits-fields (getD (entries-in c) k blank)
+entries-small : (codes : ℕ → Bool) (cabinets epoch : ℕ) → epoch < 4294967296 → (c : Content) → entries-fit codes cabinets (carried c .kind) epoch (entries-in c) ≡ true → (k : ℕ) → k < length (entries-in c) → Fits-fields (getD (entries-in c) k blank)
 entries-small codes cabinets epoch e (candidate accepted size) fits k h = absurd (omega arith)
 entries-small codes cabinets epoch e promise fits k h = absurd (omega arith)
 entries-small codes cabinets epoch e (history mark es) fits k h =
@@ -123,7 +123,7 @@ entries-small codes cabinets epoch e (acknowledge size) fits k h = absurd (omega
 entries-small codes cabinets epoch e (commit mark) fits k h = absurd (omega arith)
 
 -- a content is made again of its parts
-content-back : (c : Content) → content-of (kind-of c) (first-of c) (second-of c) (entries-in c) ≡ c
+content-back : (c : Content) → content-of (carried c .kind) (carried c .first) (carried c .second) (entries-in c) ≡ c
 content-back (candidate accepted size) = refl
 content-back promise = refl
 content-back (history mark es) = refl

@@ -18,12 +18,12 @@ use Rattle.entries.specs.Histories.{body-fits}
 use Rattle.entries.proofs.Places.{entries-length, entries-at}
 use Rattle.entries.proofs.Trips.{entry-again}
 use Rattle.entries.proofs.ListTrips.{entries-again, fits-spelled, goes-on-each, part-small}
-use Rattle.frames.specs.Letters.{kind-of, entries-in, entries-fit}
+use Rattle.frames.specs.Letters.{carried, entries-in, entries-fit}
 use Rattle.frames.specs.Reading.{said}
 use Rattle.writing.specs.Writing.{borrowed}
 
 -- they are judged as the message's entries are
-pub borrowed-fit : (codes : ℕ → Bool) (cabinets epoch : ℕ) (m : Message) → entries-fit codes cabinets (kind-of (said m)) epoch (entries-of (borrowed m)) ≡ entries-fit codes cabinets (kind-of (said m)) epoch (entries-in (said m))
+pub borrowed-fit : (codes : ℕ → Bool) (cabinets epoch : ℕ) (m : Message) → entries-fit codes cabinets (carried (said m) .kind) epoch (entries-of (borrowed m)) ≡ entries-fit codes cabinets (carried (said m) .kind) epoch (entries-in (said m))
 borrowed-fit codes cabinets epoch (Candidate accepted length) = refl
 borrowed-fit codes cabinets epoch Promise = refl
 borrowed-fit codes cabinets epoch (History mark entries) = refl
@@ -43,7 +43,7 @@ first-there codes cabinets bs fits =
     ]
 
 -- they are long enough for the message's entries
-pub borrowed-room : (codes : ℕ → Bool) (cabinets epoch : ℕ) (m : Message) → entries-fit codes cabinets (kind-of (said m)) epoch (entries-in (said m)) ≡ true → 16 * length (entries-in (said m)) ≤ length (borrowed m)
+pub borrowed-room : (codes : ℕ → Bool) (cabinets epoch : ℕ) (m : Message) → entries-fit codes cabinets (carried (said m) .kind) epoch (entries-in (said m)) ≡ true → 16 * length (entries-in (said m)) ≤ length (borrowed m)
 borrowed-room codes cabinets epoch (Candidate accepted size) fits = omega arith
 borrowed-room codes cabinets epoch Promise fits = omega arith
 borrowed-room codes cabinets epoch (History mark entries) fits = omega (arith, entries-length (entries .now))
@@ -52,7 +52,7 @@ borrowed-room codes cabinets epoch (Acknowledge size) fits = omega arith
 borrowed-room codes cabinets epoch (Commit mark) fits = omega arith
 
 -- they are the bytes of the message's entries
-pub borrowed-bytes : (codes : ℕ → Bool) (cabinets epoch : ℕ) (m : Message) → Octets (borrowed m) → entries-fit codes cabinets (kind-of (said m)) epoch (entries-in (said m)) ≡ true → entries-bytes (entries-in (said m)) ≡ take (16 * length (entries-in (said m))) (borrowed m)
+pub borrowed-bytes : (codes : ℕ → Bool) (cabinets epoch : ℕ) (m : Message) → Octets (borrowed m) → entries-fit codes cabinets (carried (said m) .kind) epoch (entries-in (said m)) ≡ true → entries-bytes (entries-in (said m)) ≡ take (16 * length (entries-in (said m))) (borrowed m)
 borrowed-bytes codes cabinets epoch (Candidate accepted size) small fits = refl
 borrowed-bytes codes cabinets epoch Promise small fits = refl
 borrowed-bytes codes cabinets epoch (History mark entries) small fits =

@@ -21,55 +21,44 @@ use refusal::Refusal;
 fn fields_of(frame: &Frame<'_>) -> Fields
     ensures { λ r. ⌜ r ≡ fields-of (letter (now (frame .entry))) ⌝ }
 {
-    let (sender, epoch) = (frame.sender, frame.epoch);
+    let bare = Fields {
+        kind: FrameKind::Promise,
+        sender: frame.sender,
+        count: 0,
+        epoch: frame.epoch,
+        first: 0,
+        second: 0,
+    };
     match frame.message {
         Message::Candidate { accepted, length } => Fields {
             kind: FrameKind::Candidate,
-            sender,
-            count: 0,
-            epoch,
             first: accepted,
             second: length,
+            ..bare
         },
-        Message::Promise => Fields {
-            kind: FrameKind::Promise,
-            sender,
-            count: 0,
-            epoch,
-            first: 0,
-            second: 0,
-        },
+        Message::Promise => bare,
         Message::History { mark, entries } => Fields {
             kind: FrameKind::History,
-            sender,
             count: entries.len() / 16,
-            epoch,
             first: mark,
-            second: 0,
+            ..bare
         },
         Message::Entry { position, mark, .. } => Fields {
             kind: FrameKind::Entry,
-            sender,
             count: 1,
-            epoch,
             first: position,
             second: mark,
+            ..bare
         },
         Message::Acknowledge { length } => Fields {
             kind: FrameKind::Acknowledge,
-            sender,
-            count: 0,
-            epoch,
             first: length,
-            second: 0,
+            ..bare
         },
         Message::Commit { mark } => Fields {
             kind: FrameKind::Commit,
-            sender,
-            count: 0,
-            epoch,
             first: mark,
-            second: 0,
+            ..bare
         },
     }
 }
