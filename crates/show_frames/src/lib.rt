@@ -124,9 +124,15 @@ pub fn show(rt: &LibcRuntime) -> io::Result<()> {
         "Frames between {CABINETS} cabinets with lists of at most {LIMIT} entries"
     )?;
     let _ = reads_back::<SetPointKind>();
-    println!(rt, "  proved of every message: written as a frame it reads back as itself")?;
+    println!(
+        rt,
+        "  proved of every message: written as a frame it reads back as itself"
+    )?;
     let _ = writes_back::<SetPointKind>();
-    println!(rt, "  proved of every accepted frame: written again it gives its own bytes")?;
+    println!(
+        rt,
+        "  proved of every accepted frame: written again it gives its own bytes"
+    )?;
     tour(
         rt,
         1,
