@@ -1,4 +1,5 @@
-// One frame for each reason of a refusal, refused for it alone.
+// One frame for each reason of a refusal, refused for it alone. A history or an entry frame without entries cannot be:
+// its mark or its entry is out of range too.
 use crate::frames_of::*;
 use std::test::*;
 
@@ -14,7 +15,6 @@ fn one_bounds() -> Result<(), Fail> {
 fn ten_short() -> Result<(), Fail> {
     check_eq(answer(&[]), 10)?;
     check_eq(answer(&CANDIDATE[0..23]), 10)?;
-    check_eq(with(&CANDIDATE, 16, 25), 10)?;
     check_eq(answer(&HISTORY[0..55]), 10)
 }
 
@@ -27,11 +27,31 @@ fn eleven_kind() -> Result<(), Fail> {
 #[test]
 fn twelve_count() -> Result<(), Fail> {
     check_eq(with(&ENTRY, 0, 1), 12).note("a candidate with an entry")?;
-    check_eq(with(&ENTRY, 0, 6), 12).note("a commit with an entry")?;
+    check_eq(with_two(&ENTRY, 0, 5, 12, 0), 12).note("an acknowledge with an entry")?;
+    check_eq(with_two(&ENTRY, 0, 6, 12, 0), 12).note("a commit with an entry")?;
     check_eq(with(&CANDIDATE, 0, 3), 12).note("a history of none")?;
     check_eq(with(&CANDIDATE, 0, 4), 12).note("an entry frame of none")?;
-    check_eq(with(&HISTORY, 0, 4), 12).note("an entry frame of two")?;
     check_eq(answer_for(3, 2, &HISTORY), 0).note("a history as long as the limit")
+}
+
+#[test]
+fn twelve_entry_frame_of_two() -> Result<(), Fail> {
+    let mut two = [0; 56];
+    two[0..40].copy_from_slice(&ENTRY);
+    two[40..56].copy_from_slice(&ENTRY[24..40]);
+    two[2] = 2;
+    two[16] = 56;
+    check_eq(answer(&two), 12)
+}
+
+#[test]
+fn twelve_promise_with_an_entry() -> Result<(), Fail> {
+    let mut promise = [0; 40];
+    promise[0..24].copy_from_slice(&PROMISE);
+    promise[24..40].copy_from_slice(&ENTRY[24..40]);
+    promise[2] = 1;
+    promise[16] = 40;
+    check_eq(answer(&promise), 12)
 }
 
 #[test]

@@ -8,21 +8,21 @@ ghost use mathlib.Core.List.{_++_};
 ghost use mathlib.Core.Path.{_≡_};
 use frames::Fields;
 
-pub fn put(out: &mut [u8], at: usize, bytes: &[u8])
+pub(crate) fn put(out: &mut [u8], at: usize, bytes: &[u8])
     requires { ⌜ at + length (now bytes) ≤ length (now out) ⌝ }
     ensures { λ _. ⌜ now (out .exit) ≡ over (now (out .entry)) at (now (bytes .entry)) ⌝ }
 {
     out[at..at + bytes.len()].copy_from_slice(bytes);
 }
 
-pub fn clear(out: &mut [u8], at: usize)
+pub(crate) fn clear(out: &mut [u8], at: usize)
     requires { ⌜ at ≤ length (now out) ⌝ }
     ensures { λ _. ⌜ now (out .exit) ≡ take at (now (out .entry)) ++ replicate (length (now (out .entry)) - at) 0 ⌝ }
 {
     out[at..].fill(0);
 }
 
-pub fn header_bytes(fields: &Fields) -> [u8; 24]
+pub(crate) fn header_bytes(fields: &Fields) -> [u8; 24]
     requires { ⌜ now fields .count ≤ 4000 ⌝ }
     ensures { λ r. ⌜ r ≡ header-bytes (now (fields .entry)) ⌝ }
 {
@@ -61,7 +61,7 @@ pub fn header_bytes(fields: &Fields) -> [u8; 24]
 }
 
 // The frame of these fields and of the first entries in `bytes`, with zeros behind it.
-pub fn put_frame(fields: &Fields, bytes: &[u8], out: &mut [u8]) -> u16
+pub(crate) fn put_frame(fields: &Fields, bytes: &[u8], out: &mut [u8]) -> u16
     requires count { ⌜ now fields .count ≤ 4000 ⌝ }
     requires bytes { ⌜ 16 * now fields .count ≤ length (now bytes) ⌝ }
     requires room { ⌜ frame-length (now fields .count) ≤ length (now out) ⌝ }
