@@ -20,12 +20,12 @@ use Rattle.journal.proofs.Parts.{part-fits}
 use Rattle.journal.specs.declared.Entry.{Entry}
 use Rattle.journal.specs.Lists.{append-lists, keep-lists}
 use Rattle.journal.specs.Makes.{in-bounds, measure-answer}
-use Rattle.reel.specs.declared.Record.{Record}
-use Rattle.reel.specs.declared.Record.the-variants.{Append, Keep}
+use Rattle.records.specs.declared.Record.{Record}
+use Rattle.records.specs.declared.Record.the-variants.{Append, Keep}
 use Rattle.reel.specs.declared.Reel.{Reel}
-use Rattle.reel.specs.Replay.{step, replay, in-use, reel-lists, add-lists}
+use Rattle.records.specs.Replay.{step, replay}
 use Rattle.reel.specs.declared.reels.Span.{Span}
-use Rattle.reel.specs.Meaning.{owners-of, limit-of, span-answer}
+use Rattle.reel.specs.Meaning.{in-use, reel-lists, add-lists, owners-of, limit-of, span-answer}
 use Rattle.reel.specs.Lawful.{made-by}
 
 -- a reel that has an owner has the memory for it

@@ -1,25 +1,21 @@
 -- That a reel is a journal. Assumes nothing.
 use mathlib.Core.Path.{_≡_, refl}
-use mathlib.Core.List.{List, [], _∷_, _++_}
+use mathlib.Core.List.{[]}
 use mathlib.Core.Bool.{Bool, cond, true, false, _&&_}
 use Prim.Native.Nat.{ℕ, _+_, _*_, _≤_, zero-le}
 use native.Mathlib.Omega.{arith}
 use denote.Ref.{now}
 use lib.Dec.{ltb, leb}
-use lib.ListN.{length, length-take}
-use Rattle.std.specs.Iters.{folded}
+use lib.ListN.{length}
 use Rattle.std.specs.declared.result.Result.the-variants.{Ok, Err}
-use Rattle.std.proofs.shelf.Lists.{length-push}
 use Rattle.std.proofs.shelf.Tests.{and-parts, leb-true, ltb-true, le-ltb, cond-both, cond-false}
 use Rattle.refusal.specs.declared.Refusal.the-variants.{OutOfBounds, NoTray}
-use Rattle.journal.specs.declared.Entry.{Entry}
 use Rattle.journal.specs.Lists.{Laws}
 use Rattle.journal.specs.Makes.{in-bounds, made-owners, made-limit}
-use Rattle.reel.specs.declared.Record.{Record}
-use Rattle.reel.specs.declared.Record.the-variants.{Append, Keep}
 use Rattle.reel.specs.declared.Reel.{Reel}
-use Rattle.reel.specs.Replay.{step, replay, in-use}
-use Rattle.reel.specs.Meaning.{owners-of, limit-of, lists-of}
+use Rattle.records.specs.Replay.{replay}
+use Rattle.records.proofs.Steps.{replay-within}
+use Rattle.reel.specs.Meaning.{in-use, owners-of, limit-of, lists-of}
 
 -- what holds of no owners and limit 2, and of numbers that suffice, holds of what is made
 pub made-by : (n j : ℕ) (bounds room : Bool) (P : ℕ → ℕ → Type 0) → P 0 2 → (bounds ≡ true → room ≡ true → P n j) → P (made-owners n (cond bounds (cond room (Ok tt) (Err NoTray)) (Err OutOfBounds))) (made-limit j (cond bounds (cond room (Ok tt) (Err NoTray)) (Err OutOfBounds)))
@@ -36,23 +32,6 @@ made-within s =
     let a = and-parts (leb (s .owners) 65535 && leb 2 (s .limit)) (leb (s .limit) 4000) bounds in
     let b = and-parts (leb (s .owners) 65535) (leb 2 (s .limit)) (a .0) in
     (leb-true (s .owners) 65535 (b .0), leb-true 2 (s .limit) (b .1), leb-true (s .limit) 4000 (a .1)))
-
--- one record leaves no list longer than the limit
-pub step-within : (limit : ℕ) (es : List Entry) (r : Record) → length es ≤ limit → length (step limit es r) ≤ limit
-step-within limit es (Append e) h =
-    cond-both (ltb (length es) limit) (es ++ e ∷ []) es (λ xs. length xs ≤ limit)
-    (λ room. omega (arith, ltb-true (length es) limit room, length-push es e))
-    (λ _. h)
-step-within limit es (Keep n) h = omega (arith, length-take n es)
-
--- nor do many
-pub folded-within : (limit : ℕ) (es : List Entry) (rs : List Record) → length es ≤ limit → length (folded (step limit) es rs) ≤ limit
-folded-within limit es [] h = h
-folded-within limit es (r ∷ rs) h = folded-within limit (step limit es r) rs (step-within limit es r h)
-
--- no records stand for a list longer than the limit
-pub replay-within : (limit : ℕ) (rs : List Record) → length (replay limit rs) ≤ limit
-replay-within limit rs = folded-within limit [] rs zero-le
 
 -- no list of a reel is longer than its limit
 pub lists-within : (s : Reel) (p : ℕ) → length (lists-of s p) ≤ limit-of s

@@ -1,8 +1,10 @@
 -- What a reel means: its owners, limit and lists. Assumes nothing.
-use mathlib.Core.List.{List}
+use mathlib.Core.Bool.{cond, _&&_}
+use mathlib.Core.List.{List, []}
 use Prim.Native.Nat.{ℕ, _+_, _*_, _≤_, _<_, min}
 use denote.Ref.{now}
-use lib.ListN.{length, getD}
+use lib.Dec.{ltb, eqb}
+use lib.ListN.{length, getD, take, drop}
 use Rattle.std.specs.declared.result.Result.{Result}
 use Rattle.std.specs.declared.result.Result.the-variants.{Ok, Err}
 use Rattle.refusal.specs.declared.Refusal.{Refusal}
@@ -11,7 +13,20 @@ use Rattle.journal.specs.Lists.{owned}
 use Rattle.journal.specs.Makes.{measure-answer, made-owners, made-limit}
 use Rattle.reel.specs.declared.Reel.{Reel}
 use Rattle.reel.specs.declared.reels.Span.{Span}
-use Rattle.reel.specs.Replay.{reel-lists}
+use Rattle.records.specs.declared.Record.{Record}
+use Rattle.records.specs.Replay.{step, replay}
+
+-- the records of an owner that are in use: the front of its limit + 1 places
+abbrev pub in-use : ℕ → List Record → List ℕ → ℕ → List Record
+in-use limit records used o = take (min (getD used o 0) (limit + 1)) (drop (o * (limit + 1)) records)
+
+-- the lists of all owners, with nothing past the last owner
+abbrev pub reel-lists : ℕ → ℕ → List Record → List ℕ → ℕ → List Entry
+reel-lists owners limit records used o = cond (ltb o owners) (replay limit (in-use limit records used o)) []
+
+-- the lists after a record is added to one owner's, if there is such an owner
+abbrev pub add-lists : ℕ → ℕ → (ℕ → List Entry) → ℕ → Record → ℕ → List Entry
+add-lists owners limit ls o r p = cond (ltb o owners && eqb p o) (step limit (ls p) r) (ls p)
 
 -- whether a reel's numbers are within bounds and its memory suffices for them
 abbrev pub measured : Reel → Result (Unit {0}) Refusal

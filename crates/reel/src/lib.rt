@@ -1,20 +1,11 @@
 // The reel: a journal with limit + 1 records for each owner, over memory that the caller lends.
-use journal::Entry;
+use records::Record;
 
-mod records;
 mod reels;
 
 pub use reels::ReelJournal;
 pub use reels::lay;
 pub use reels::measure;
-
-// What was done to a list.
-#[derive(Clone, Copy)]
-pub enum Record {
-    Append(Entry),
-    // The first so many entries were kept.
-    Keep(u16),
-}
 
 // A reel of which the numbers or the memory do not suffice has no owners and limit 2.
 #[derive(Drop)]

@@ -3,21 +3,20 @@ ghost use Prim.Native.Nat.{ℕ, _*_, _+_};
 ghost use Rattle.journal.specs.Lists.{owned};
 ghost use Rattle.journal.specs.Makes.{made-limit, made-owners, measure-answer};
 ghost use Rattle.reel.specs.Lawful.{reel-laws};
-ghost use Rattle.reel.specs.Meaning.{Within, limit-of, lists-of, owners-of, span-answer};
-ghost use Rattle.reel.specs.Replay.{add-lists};
+ghost use Rattle.reel.specs.Meaning.{Within, add-lists, limit-of, lists-of, owners-of, span-answer};
 ghost use Rattle.std.specs.declared.result.Result.the-variants.{Ok};
 ghost use lib.ListN.{length};
 ghost use mathlib.Core.List.{[]};
 ghost use mathlib.Core.Path.{_≡_};
-use crate::Record;
 use crate::Reel;
-use crate::records::find;
-use crate::records::live;
-use crate::records::push;
 use journal::Entry;
 use journal::Journal;
 use journal::LEAST_LIMIT;
 use journal::check_bounds;
+use records::Record;
+use records::find;
+use records::live;
+use records::push;
 use refusal::Refusal;
 
 // Whether a reel can be made: 1 for a number outside its bounds, 3 for too little memory.
@@ -89,7 +88,7 @@ impl Reel<'_> {
     {
         let Span { start, used, limit } = self.span(owner)?;
         let end = start + limit as usize + 1;
-        let used = push(limit, &mut self.records[start..end], used, made);
+        let used = push(limit, &mut self.records[start..end], used, made)?;
         self.used[owner as usize] = used as u16;
         Ok(())
     }

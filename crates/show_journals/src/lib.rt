@@ -3,7 +3,7 @@ use journal::Entry;
 use journal::EntryKind;
 use journal::EntryPartialEq;
 use journal::Journal;
-use reel::Record;
+use records::Record;
 use reel::ReelJournal;
 use refusal::Refusal;
 use sheet::SheetJournal;

@@ -4,10 +4,10 @@ use native.Mathlib.Omega.{arith}
 use Prim.Native.Nat.{_+_, _<_}
 use lib.ListN.{length, getD, set, take}
 use Rattle.std.proofs.shelf.Lists.{take-all, drop-set-lt}
-use Rattle.reel.specs.declared.Record.the-variants.{Append}
-use Rattle.reel.specs.Replay.{step-length, replay, step}
-use Rattle.reel.proofs.Steps.{first, length-step, replay-more, moved, same-at, same-after, step-rises}
-use Rattle.reel.proofs.records.rewrite.Needs as need
+use Rattle.records.specs.declared.Record.the-variants.{Append}
+use Rattle.records.specs.Replay.{step-length, replay, step}
+use Rattle.records.proofs.Steps.{first, length-step, replay-more, moved, same-at, same-after, step-rises}
+use Rattle.records.proofs.rewrite.Needs as need
 
 pub loop-i-again : need.loop-i-again
 loop-i-again c =

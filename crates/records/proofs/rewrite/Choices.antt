@@ -2,9 +2,9 @@ use mathlib.Core.Path.{_≡_}
 use mathlib.Core.List.{map}
 use Prim.Native.Nat.{_≤_}
 use lib.ListN.{length, take, drop}
-use Rattle.reel.specs.declared.Record.the-variants.{Append}
-use Rattle.reel.specs.Replay.{replay}
-use Rattle.reel.proofs.records.rewrite.Given as given
+use Rattle.records.specs.declared.Record.the-variants.{Append}
+use Rattle.records.specs.Replay.{replay}
+use Rattle.records.proofs.rewrite.Given as given
 
 -- the live entries of what was read stand at the front, and what is still to be read is as it was
 abbrev pub Inv-loop-i : given.InvT-loop-i

@@ -1,10 +1,9 @@
 use mathlib.Core.Path.{ap, sym, _∙_}
 use native.Mathlib.Omega.{arith}
 use Rattle.std.proofs.shelf.Lists.{take-all}
-use Rattle.reel.specs.Replay.{replay}
-use Rattle.reel.specs.Lawful.{replay-within}
-use Rattle.reel.proofs.Steps.{replay-entries}
-use Rattle.reel.proofs.records.make_room.Needs as need
+use Rattle.records.specs.Replay.{replay}
+use Rattle.records.proofs.Steps.{replay-entries, replay-within}
+use Rattle.records.proofs.make_room.Needs as need
 
 pub returns : need.returns
 returns c =

@@ -1,18 +1,19 @@
--- What the records of a reel stand for: what the contracts of the reel cite. Assumes nothing.
-use mathlib.Core.Bool.{Bool, cond, _&&_}
+-- What records stand for, and what each call on them answers and leaves. Assumes nothing.
+use mathlib.Core.Path.{_≡_}
+use mathlib.Core.Bool.{Bool, cond}
 use mathlib.Core.List.{List, [], _∷_, _++_}
-use Prim.Native.Nat.{ℕ, _+_, _*_, min}
-use lib.Dec.{ltb, eqb}
-use lib.ListN.{length, getD, take, drop}
+use Prim.Native.Nat.{ℕ, _+_, _<_, _≤_, min}
+use lib.Dec.{ltb}
+use lib.ListN.{length, getD, take}
 use Rattle.std.specs.Iters.{folded}
 use Rattle.std.specs.declared.result.Result.{Result}
 use Rattle.std.specs.declared.result.Result.the-variants.{Ok, Err}
 use Rattle.refusal.specs.declared.Refusal.{Refusal}
-use Rattle.refusal.specs.declared.Refusal.the-variants.{NoPosition}
+use Rattle.refusal.specs.declared.Refusal.the-variants.{NoPosition, NoTray}
 use Rattle.journal.specs.declared.Entry.{Entry}
 use Rattle.journal.specs.Entries.{blank}
-use Rattle.reel.specs.declared.Record.{Record}
-use Rattle.reel.specs.declared.Record.the-variants.{Append, Keep}
+use Rattle.records.specs.declared.Record.{Record}
+use Rattle.records.specs.declared.Record.the-variants.{Append, Keep}
 
 -- what one record makes of the list before it: one entry more unless the list is full, or its front
 abbrev pub step : ℕ → List Entry → Record → List Entry
@@ -37,14 +38,8 @@ abbrev pub found-after : Record → Bool → Entry → Entry
 found-after (Append e) reached known = cond reached e known
 found-after (Keep n) reached known = known
 
--- the records of an owner that are in use: the front of its limit + 1 places
-abbrev pub in-use : ℕ → List Record → List ℕ → ℕ → List Record
-in-use limit records used o = take (min (getD used o 0) (limit + 1)) (drop (o * (limit + 1)) records)
-
--- the lists of all owners, with nothing past the last owner
-abbrev pub reel-lists : ℕ → ℕ → List Record → List ℕ → ℕ → List Entry
-reel-lists owners limit records used o = cond (ltb o owners) (replay limit (in-use limit records used o)) []
-
--- the lists after a record is added to one owner's, if there is such an owner
-abbrev pub add-lists : ℕ → ℕ → (ℕ → List Entry) → ℕ → Record → ℕ → List Entry
-add-lists owners limit ls o r p = cond (ltb o owners && eqb p o) (step limit (ls p) r) (ls p)
+-- a record added: how many first records then stand for the list with it; 3 and no change where there are not limit + 1 records
+abbrev pub Pushed : ℕ → ℕ → Record → List Record → List Record → Result ℕ Refusal → Type 0
+Pushed limit used made before after (Ok n) =
+    (limit < length before) × (n ≤ length before) × (replay limit (take n after) ≡ step limit (replay limit (take used before)) made)
+Pushed limit used made before after (Err e) = (length before ≤ limit) × (e ≡ NoTray) × (after ≡ before)

@@ -1,14 +1,21 @@
-// The records of one owner, as a slice: replaying, rewriting and adding.
-ghost use Prim.Native.Nat.{_+_, _<_, _≤_};
-ghost use Rattle.reel.specs.Replay.{entry-at, found-after, replay, step, step-length};
-ghost use Rattle.reel.specs.declared.Record.the-variants.{Append};
+// The records of one list, as a slice: replaying, finding, rewriting and adding.
+ghost use Prim.Native.Nat.{_<_};
+ghost use Rattle.records.specs.Replay.{Pushed, entry-at, found-after, replay, step-length};
+ghost use Rattle.records.specs.declared.Record.the-variants.{Append};
 ghost use lib.ListN.{length, take};
 ghost use mathlib.Core.List.{map};
 ghost use mathlib.Core.Path.{_≡_};
-use crate::Record;
 use journal::Entry;
 use journal::EntryKind;
 use refusal::Refusal;
+
+// What was done to a list.
+#[derive(Clone, Copy)]
+pub enum Record {
+    Append(Entry),
+    // The first so many entries were kept.
+    Keep(u16),
+}
 
 const BLANK: Entry = Entry {
     epoch: 0,
@@ -37,7 +44,7 @@ fn at_position(made: Record, reached: bool, known: Entry) -> Entry
 }
 
 // How long the list is that the records stand for.
-pub(crate) fn live(limit: u16, records: &[Record]) -> u16
+pub fn live(limit: u16, records: &[Record]) -> u16
     ensures { λ r. ⌜ r ≡ length (replay limit (now (records .entry))) ⌝ }
 {
     let mut live = 0;
@@ -48,7 +55,7 @@ pub(crate) fn live(limit: u16, records: &[Record]) -> u16
 }
 
 // The entry at a position of the list that the records stand for; 50 where there is none.
-pub(crate) fn find(limit: u16, records: &[Record], position: u16) -> Result<Entry, Refusal>
+pub fn find(limit: u16, records: &[Record], position: u16) -> Result<Entry, Refusal>
     ensures { λ r. ⌜ r ≡ entry-at (replay limit (now (records .entry))) position ⌝ }
 {
     let mut live = 0;
@@ -82,7 +89,7 @@ fn rewrite(limit: u16, records: &mut [Record]) -> u16
 
 // Sees to it that a record is free: rewrites where all are used, and tells how many are then in use.
 fn make_room(limit: u16, records: &mut [Record], used: usize) -> usize
-    requires { ⌜ used ≤ length (now records) ⌝ ∗ ⌜ limit < length (now records) ⌝ }
+    requires { ⌜ limit < length (now records) ⌝ }
     ensures free { λ r. ⌜ r < length (now (records .entry)) ⌝ }
     ensures same { λ r. ⌜ replay limit (take r (now (records .exit))) ≡ replay limit (take used (now (records .entry))) ⌝ }
 {
@@ -92,13 +99,14 @@ fn make_room(limit: u16, records: &mut [Record], used: usize) -> usize
     rewrite(limit, records) as usize
 }
 
-// Adds a record behind the first `used`, and tells how many are then in use.
-pub(crate) fn push(limit: u16, records: &mut [Record], used: usize, made: Record) -> usize
-    requires { ⌜ used ≤ length (now records) ⌝ ∗ ⌜ limit < length (now records) ⌝ }
-    ensures within { λ r. ⌜ r ≤ length (now (records .entry)) ⌝ }
-    ensures list { λ r. ⌜ replay limit (take r (now (records .exit))) ≡ step limit (replay limit (take used (now (records .entry)))) made ⌝ }
+// Adds a record behind the first `used`, and tells how many are then in use; 3 where there are not limit + 1 records.
+pub fn push(limit: u16, records: &mut [Record], used: usize, made: Record) -> Result<usize, Refusal>
+    ensures { λ r. ⌜ Pushed limit used made (now (records .entry)) (now (records .exit)) r ⌝ }
 {
+    if records.len() <= limit as usize {
+        return Err(Refusal::NoTray);
+    }
     let end = make_room(limit, records, used);
     records[end] = made;
-    end + 1
+    Ok(end + 1)
 }

@@ -1,9 +1,9 @@
--- Lemmas on replaying records: one record more, and entries alone.
+-- Lemmas on replaying records: one record more, the limit, and entries alone.
 use mathlib.Core.Path.{_≡_, sym, ap, _∙_}
 use mathlib.Core.Bool.{true}
 use mathlib.Core.List.{List, [], _∷_, _++_, map}
 use mathlib.Core.Logic.{⊎-elim}
-use Prim.Native.Nat.{ℕ, _+_, _≤_, _<_, min}
+use Prim.Native.Nat.{ℕ, _+_, _≤_, _<_, min, zero-le}
 use native.Mathlib.Nat.{add-zero}
 use native.Mathlib.Omega.{arith}
 use lib.Dec.{ltb, eqb}
@@ -11,13 +11,13 @@ use lib.ListN.{length, getD, set, take, drop, length-take}
 use Rattle.std.specs.Iters.{folded}
 use Rattle.std.proofs.shelf.Lists.{length-push, take-all, take-take, take-set, take-set-le, take-more-set, take-map, map-push, append-nil, append-assoc, getD-append-left, getD-push, getD-take, getD-drop, drop-drop}
 use Rattle.std.proofs.shelf.Sums.{folded-push, folded-more}
-use Rattle.std.proofs.shelf.Tests.{cases-lt, lt-ltb, cond-true}
+use Rattle.std.proofs.shelf.Tests.{cases-lt, lt-ltb, ltb-true, cond-true, cond-both}
 use Rattle.std.proofs.shelf.Ways.{tells}
 use Rattle.journal.specs.declared.Entry.{Entry}
 use Rattle.journal.specs.Entries.{blank}
-use Rattle.reel.specs.declared.Record.{Record}
-use Rattle.reel.specs.declared.Record.the-variants.{Append, Keep}
-use Rattle.reel.specs.Replay.{step, step-length, replay, found-after}
+use Rattle.records.specs.declared.Record.{Record}
+use Rattle.records.specs.declared.Record.the-variants.{Append, Keep}
+use Rattle.records.specs.Replay.{step, step-length, replay, found-after}
 
 -- what lies at a place that no slice has
 abbrev pub first : Record
@@ -27,6 +27,23 @@ first = Append blank
 pub length-step : (limit : ℕ) (es : List Entry) (r : Record) → length (step limit es r) ≡ step-length limit (length es) r
 length-step limit es (Append e) = let a = length-push es e in grind (arith, tells)
 length-step limit es (Keep n) = let a = length-take n es in omega arith
+
+-- one record leaves no list longer than the limit
+pub step-within : (limit : ℕ) (es : List Entry) (r : Record) → length es ≤ limit → length (step limit es r) ≤ limit
+step-within limit es (Append e) h =
+    cond-both (ltb (length es) limit) (es ++ e ∷ []) es (λ xs. length xs ≤ limit)
+    (λ room. omega (arith, ltb-true (length es) limit room, length-push es e))
+    (λ _. h)
+step-within limit es (Keep n) h = omega (arith, length-take n es)
+
+-- nor do many
+pub folded-within : (limit : ℕ) (es : List Entry) (rs : List Record) → length es ≤ limit → length (folded (step limit) es rs) ≤ limit
+folded-within limit es [] h = h
+folded-within limit es (r ∷ rs) h = folded-within limit (step limit es r) rs (step-within limit es r h)
+
+-- no records stand for a list longer than the limit
+pub replay-within : (limit : ℕ) (rs : List Record) → length (replay limit rs) ≤ limit
+replay-within limit rs = folded-within limit [] rs zero-le
 
 -- entries alone, replayed on, are added as they stand
 pub folded-entries : (limit : ℕ) (es fs : List Entry) → length es + length fs ≤ limit → folded (step limit) es (map Append fs) ≡ es ++ fs

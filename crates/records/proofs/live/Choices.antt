@@ -1,7 +1,7 @@
 use mathlib.Core.Path.{_≡_}
 use lib.ListN.{length, take}
-use Rattle.reel.specs.Replay.{replay}
-use Rattle.reel.proofs.records.live.Given as given
+use Rattle.records.specs.Replay.{replay}
+use Rattle.records.proofs.live.Given as given
 
 -- what was counted so far is the length of what was replayed so far
 abbrev pub Inv-loop-record : given.InvT-loop-record

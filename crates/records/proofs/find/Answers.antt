@@ -5,9 +5,9 @@ use lib.ListN.{length, getD, take}
 use Rattle.std.proofs.shelf.Lists.{take-all}
 use Rattle.std.proofs.shelf.Ways.{tells}
 use Rattle.journal.specs.Entries.{blank}
-use Rattle.reel.specs.Replay.{step-length, replay}
-use Rattle.reel.proofs.Steps.{first, length-step, replay-more, found-more}
-use Rattle.reel.proofs.records.find.Needs as need
+use Rattle.records.specs.Replay.{step-length, replay}
+use Rattle.records.proofs.Steps.{first, length-step, replay-more, found-more}
+use Rattle.records.proofs.find.Needs as need
 
 pub loop-record-again : need.loop-record-again
 loop-record-again c =

@@ -1,9 +1,9 @@
 use mathlib.Core.Path.{ap, sym, _∙_}
 use lib.ListN.{length, getD, take}
 use Rattle.std.proofs.shelf.Lists.{take-all}
-use Rattle.reel.specs.Replay.{step-length, replay}
-use Rattle.reel.proofs.Steps.{first, length-step, replay-more}
-use Rattle.reel.proofs.records.live.Needs as need
+use Rattle.records.specs.Replay.{step-length, replay}
+use Rattle.records.proofs.Steps.{first, length-step, replay-more}
+use Rattle.records.proofs.live.Needs as need
 
 pub loop-record-again : need.loop-record-again
 loop-record-again c =
