@@ -6,7 +6,7 @@ use native.Mathlib.Omega.{arith}
 use Rattle.std.specs.declared.result.Result.{Result}
 use Rattle.std.specs.declared.result.Result.the-variants.{Ok, Err}
 use Rattle.refusal.specs.declared.Refusal.{Refusal}
-use Rattle.frames.specs.Fields.{and-then, unless}
+use Rattle.refusal.specs.Answers.{and-then, unless}
 
 -- a check that passed holds
 pub unless-ok : (b : Bool) (e : Refusal) → unless b e ≡ Ok tt → b ≡ true

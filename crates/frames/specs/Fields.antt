@@ -9,6 +9,7 @@ use Rattle.std.specs.declared.result.Result.{Result}
 use Rattle.std.specs.declared.result.Result.the-variants.{Ok, Err}
 use Rattle.refusal.specs.declared.Refusal.{Refusal}
 use Rattle.refusal.specs.declared.Refusal.the-variants.{OutOfBounds, FrameShort, FrameKind as BadKind, FrameShape, FrameField}
+use Rattle.refusal.specs.Answers.{and-then, unless}
 use Rattle.orders.specs.Kinds.{between as in-range}
 use Rattle.frames.specs.declared.FrameKind.{FrameKind}
 use Rattle.frames.specs.declared.FrameKind.the-variants.{Candidate, Promise, History, Entry, Acknowledge, Commit}
@@ -16,15 +17,6 @@ use Rattle.frames.specs.declared.Header.{Header}
 use Rattle.frames.specs.declared.Numbers.{Numbers}
 use Rattle.frames.specs.declared.Fields.{Fields}
 use Rattle.entries.specs.Bytes.{u16-at, u32-at}
-
--- what follows an answer that is no refusal
-abbrev pub and-then : {X Y : Type 0} → Result X Refusal → (X → Result Y Refusal) → Result Y Refusal
-and-then (Ok x) f = f x
-and-then (Err e) f = Err e
-
--- nothing, or the refusal of what does not hold
-abbrev pub unless : Bool → Refusal → Result (Unit {0}) Refusal
-unless holds e = cond holds (Ok tt) (Err e)
 
 -- a table has 1 to 16 cabinets, a list at most 2 to 4000 entries
 abbrev pub bounds-fit : ℕ → ℕ → Bool

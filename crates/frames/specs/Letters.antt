@@ -16,7 +16,8 @@ use Rattle.frames.specs.declared.Fields.{Fields}
 use Rattle.entries.specs.Bytes.{u16-bytes, u32-bytes}
 use Rattle.entries.specs.Entries.{entries-bytes}
 use Rattle.entries.specs.Histories.{body-fits, faultless}
-use Rattle.frames.specs.Fields.{and-then, unless, kind-number, count-answer, fields-answer}
+use Rattle.refusal.specs.Answers.{and-then, unless}
+use Rattle.frames.specs.Fields.{kind-number, count-answer, fields-answer}
 
 -- what a letter says
 pub data Content : Type 0 where

@@ -12,7 +12,8 @@ use Rattle.frames.specs.declared.Message.{Message}
 use Rattle.frames.specs.declared.Message.the-variants.{Candidate, Promise, History, Entry, Acknowledge, Commit}
 use Rattle.journal.specs.Entries.{blank}
 use Rattle.entries.specs.Entries.{entries-of}
-use Rattle.frames.specs.Fields.{and-then, bounds-answer, header-of, shape-answer}
+use Rattle.refusal.specs.Answers.{and-then}
+use Rattle.frames.specs.Fields.{bounds-answer, header-of, shape-answer}
 use Rattle.frames.specs.Letters.{Letter, Content, candidate, promise, history, entry, acknowledge, commit, letter-of, ranges-answer}
 
 -- what a message says, its entries read from the bytes that it borrows

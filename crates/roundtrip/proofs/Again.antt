@@ -29,7 +29,8 @@ use Rattle.entries.specs.Histories.{body-fits}
 use Rattle.entries.proofs.Digits.{u16-again, u32-again}
 use Rattle.entries.proofs.Places.{entries-length}
 use Rattle.entries.proofs.ListTrips.{entries-again, goes-on-each, part-small}
-use Rattle.frames.specs.Fields.{and-then, unless, bounds-fit, kind-number, kind-numbered, count-fits, numbers-fit, fields-fit, zeros-in, numbers-of, header-of, shape-answer, behind}
+use Rattle.refusal.specs.Answers.{and-then, unless}
+use Rattle.frames.specs.Fields.{bounds-fit, kind-number, kind-numbered, count-fits, numbers-fit, fields-fit, zeros-in, numbers-of, header-of, shape-answer, behind}
 use Rattle.frames.specs.Letters.{Letter, fields-of, letter-of, content-of, entries-in, entries-fit, ranges-answer, letter-answer, frame-length, header-bytes, frame-bytes}
 use Rattle.frames.specs.Reading.{decode, part-of}
 use Rattle.frames.proofs.Chains.{checked, and-then-ok, unless-ok, ok-unless}

@@ -29,7 +29,8 @@ use Rattle.entries.specs.Histories.{body-fits}
 use Rattle.entries.proofs.Digits.{u16-back, u32-back}
 use Rattle.entries.proofs.Trips.{Fits-fields}
 use Rattle.entries.proofs.ListTrips.{bytes-length, entries-back, goes-on-each}
-use Rattle.frames.specs.Fields.{and-then, unless, bounds-fit, bounds-answer, kind-number, kind-numbered, count-fits, numbers-fit, fields-fit, zeros-in, numbers-of, header-of, shape-answer}
+use Rattle.refusal.specs.Answers.{and-then, unless}
+use Rattle.frames.specs.Fields.{bounds-fit, bounds-answer, kind-number, kind-numbered, count-fits, numbers-fit, fields-fit, zeros-in, numbers-of, header-of, shape-answer}
 use Rattle.frames.specs.Letters.{Letter, Content, candidate, promise, history, entry, acknowledge, commit, fields-of, letter-of, carried, content-of, entries-in, entries-fit, ranges-answer, frame-length, header-bytes, frame-bytes}
 use Rattle.frames.specs.Reading.{decode, part-of}
 use Rattle.frames.proofs.Chains.{ok-unless}

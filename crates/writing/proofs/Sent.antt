@@ -15,7 +15,8 @@ use Rattle.entries.proofs.Journals.{owned-tells}
 use Rattle.frames.specs.declared.Fields.{Fields}
 use Rattle.frames.specs.declared.FrameKind.{FrameKind}
 use Rattle.frames.specs.declared.FrameKind.the-variants.{Candidate, Promise, History, Entry, Acknowledge, Commit}
-use Rattle.frames.specs.Fields.{and-then, unless, bounds-fit, count-fits, fields-fit}
+use Rattle.refusal.specs.Answers.{and-then, unless}
+use Rattle.frames.specs.Fields.{bounds-fit, count-fits, fields-fit}
 use Rattle.frames.specs.Letters.{Letter, fields-of, entries-in, entries-fit, ranges-answer, letter-answer, frame-length}
 use Rattle.frames.proofs.Chains.{checked, and-then-ok, unless-ok}
 use Rattle.writing.specs.Writing.{room-answer, write-answer, history-answer}

@@ -13,7 +13,8 @@ use Rattle.journal.specs.Lists.{owned}
 use Rattle.frames.specs.declared.Fields.{Fields}
 use Rattle.frames.specs.declared.Message.{Message}
 use Rattle.frames.specs.declared.Message.the-variants.{Candidate, Promise, History, Entry, Acknowledge, Commit}
-use Rattle.frames.specs.Fields.{and-then, unless, bounds-answer}
+use Rattle.refusal.specs.Answers.{and-then, unless}
+use Rattle.frames.specs.Fields.{bounds-answer}
 use Rattle.frames.specs.Letters.{Letter, history, fields-of, letter-answer, frame-length, frame-bytes}
 
 -- 3 for a buffer that is shorter than the frame

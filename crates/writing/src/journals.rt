@@ -2,7 +2,7 @@
 ghost use Prim.Native.Nat.{_-_, _<_, _≤_};
 ghost use Rattle.entries.specs.Entries.{entries-bytes};
 ghost use Rattle.entries.specs.Histories.{codes-of};
-ghost use Rattle.frames.specs.Fields.{and-then};
+ghost use Rattle.refusal.specs.Answers.{and-then};
 ghost use Rattle.frames.specs.Letters.{fields-of, frame-length, header-bytes};
 ghost use Rattle.std.specs.declared.result.Result.the-variants.{Ok};
 ghost use Rattle.writing.specs.Writing.{history-answer, history-of, over, written};

@@ -1,6 +1,6 @@
 // The fields of a message's frame, its checks, and the frame itself.
 ghost use Rattle.entries.specs.Histories.{codes-of};
-ghost use Rattle.frames.specs.Fields.{and-then};
+ghost use Rattle.refusal.specs.Answers.{and-then};
 ghost use Rattle.frames.specs.Letters.{fields-of, letter-answer};
 ghost use Rattle.std.specs.declared.result.Result.the-variants.{Ok};
 ghost use Rattle.frames.specs.Reading.{letter};

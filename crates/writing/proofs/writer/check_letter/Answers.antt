@@ -8,7 +8,8 @@ use Rattle.refusal.specs.declared.Refusal.the-variants.{FrameField}
 use Rattle.frames.specs.declared.Fields.{Fields}
 use Rattle.entries.specs.Entries.{entries-of}
 use Rattle.entries.specs.Histories.{codes-of}
-use Rattle.frames.specs.Fields.{and-then, unless, count-answer, fields-answer}
+use Rattle.refusal.specs.Answers.{and-then, unless}
+use Rattle.frames.specs.Fields.{count-answer, fields-answer}
 use Rattle.frames.specs.Letters.{Letter, fields-of, entries-in, ranges-answer}
 use Rattle.frames.specs.Reading.{letter}
 use Rattle.writing.proofs.Borrowing.{borrowed-fit}
