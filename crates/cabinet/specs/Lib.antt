@@ -1,0 +1,4 @@
+pub mod Epochs
+pub mod Records
+pub mod Replies
+pub mod Soundness
