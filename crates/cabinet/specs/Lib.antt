@@ -1,4 +1,3 @@
 pub mod Epochs
 pub mod Records
-pub mod Replies
 pub mod Soundness
