@@ -1,4 +1,6 @@
 // What a cabinet does of itself: stand, enter orders and changes of members, refresh.
+#![tactic(auto)]
+
 mod entering;
 mod standing;
 

@@ -1,4 +1,6 @@
 // The promise of agreement: whatever calls a station gets, committed lists never disagree.
+#![tactic(auto)]
+
 ghost use Rattle.agreement.specs.Services.{Agreement};
 ghost use Rattle.calls.specs.Calls.{kind_of};
 ghost use Rattle.calls.specs.Stations.{station};

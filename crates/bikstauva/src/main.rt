@@ -1,4 +1,5 @@
 // The main job: what the parts of the station do, told as a plant engineer would follow it.
+#![tactic(auto)]
 
 fn run(rt: &HostRuntime) -> anyhow::Result<()> {
     show_shift::show(rt)?;

@@ -1,4 +1,5 @@
 // One cabinet's record: what it knows besides its list.
+#![tactic(auto)]
 
 mod changes;
 mod epochs;

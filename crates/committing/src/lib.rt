@@ -1,4 +1,6 @@
 // Committing and winning: what acknowledged lengths and promises make of a cabinet's record.
+#![tactic(auto)]
+
 mod rising;
 
 pub use rising::{commit, rise, win};

@@ -1,4 +1,6 @@
 // Questions about the configurations in an owner's list, for every journal.
+#![tactic(auto)]
+
 mod scans;
 mod tests_of_members;
 

@@ -1,4 +1,6 @@
 // Entries: how bytes spell them, and which lists of them a history may hold.
+#![tactic(auto)]
+
 mod histories;
 mod replacing;
 mod rules;

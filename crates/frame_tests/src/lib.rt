@@ -1,4 +1,6 @@
 // The reader on frames of every kind, sound and damaged; three cabinets, lists of at most five entries, set points.
+#![tactic(auto)]
+
 #[cfg(test)]
 mod accepted;
 #[cfg(test)]

@@ -1,4 +1,6 @@
 // Entries and frames, from bytes to messages: the layout, the rules of its fields, and the reader.
+#![tactic(auto)]
+
 mod headers;
 mod reader;
 

@@ -1,4 +1,6 @@
 // Entries, and the interface of every journal: one list of entries for each owner.
+#![tactic(auto)]
+
 ghost use Rattle.std.specs.Prelude.{◌≡◌, ℕ, List};
 ghost use Rattle.journal.specs.Entries.{kind_number, members_of};
 ghost use Rattle.journal.specs.Lists.{Laws, append_answer, append_lists, entry_answer, keep_answer, keep_lists, length_answer};

@@ -1,4 +1,6 @@
 // What each message does to one cabinet that it is for.
+#![tactic(auto)]
+
 mod following;
 mod histories;
 mod votes;

@@ -1,4 +1,6 @@
 // Kinds of order: the interface, and the two kinds of the plant.
+#![tactic(auto)]
+
 mod codes;
 mod samples;
 mod set_points;

@@ -1,4 +1,6 @@
 // Planning a change of members: which sets of cabinets could carry it, under any quorum rule.
+#![tactic(auto)]
+
 ghost use Rattle.std.specs.Prelude.{◌≡◌, ℕ, true, is_some, Decides, MatchOption};
 ghost use Rattle.planning.specs.Changes.{carried, Least, Shared, FirstShared};
 

@@ -1,4 +1,6 @@
 // What a cabinet answers without a step: a committed entry, and its members.
+#![tactic(auto)]
+
 mod entries_of;
 mod members_of;
 mod readiness;

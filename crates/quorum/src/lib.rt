@@ -1,4 +1,6 @@
 // Quorum rules: the interface, and the two rules of the plant.
+#![tactic(auto)]
+
 mod by_groups;
 mod by_majority;
 

@@ -1,4 +1,6 @@
 // What a message does to one cabinet, and what bytes do.
+#![tactic(auto)]
+
 mod hearing;
 mod letters;
 

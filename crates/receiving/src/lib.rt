@@ -1,4 +1,6 @@
 // What a call asks of a cabinet before its step, and receiving bytes for one cabinet.
+#![tactic(auto)]
+
 mod readiness;
 mod receiving;
 

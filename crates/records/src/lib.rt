@@ -1,4 +1,6 @@
 // The records of one list, as a slice: replaying, finding, rewriting and adding.
+#![tactic(auto)]
+
 ghost use Rattle.std.specs.Prelude.{◌≡◌, ◌<◌, map, length, take};
 ghost use Rattle.records.specs.Replay.{Pushed, entry_at, found_after, replay, step_length};
 ghost use Rattle.records.specs.declared.Record.TheVariants.{Append};

@@ -1,4 +1,6 @@
 // The reel: a journal with limit + 1 records for each owner, over memory that the caller lends.
+#![tactic(auto)]
+
 use records::Record;
 
 mod reels;

@@ -1,4 +1,6 @@
 // Every refusal of the station, in the order in which its checks run.
+#![tactic(auto)]
+
 ghost use Rattle.std.specs.Prelude.{◌≡◌};
 ghost use Rattle.refusal.specs.Numbers.{number_of};
 

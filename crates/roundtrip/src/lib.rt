@@ -1,4 +1,6 @@
 // Reader and writer belong together: what is written reads back, and what was read is written as it came.
+#![tactic(auto)]
+
 ghost use Rattle.entries.specs.Histories.{codes_of};
 ghost use Rattle.roundtrip.specs.Trips.{ReadsBack, WritesBack};
 

@@ -1,4 +1,6 @@
 // What the definitions give at worked values, and what they give of one service.
+#![tactic(auto)]
+
 ghost use Rattle.served.specs.Served.{Served};
 ghost use Rattle.served.specs.Worked.{Worked};
 

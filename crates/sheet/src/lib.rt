@@ -1,4 +1,6 @@
 // The sheet: a journal with one row of entries for each owner, over memory that the caller lends.
+#![tactic(auto)]
+
 ghost use Rattle.std.specs.Prelude.{◌*◌, ◌≤◌, length};
 
 use journal::Entry;

@@ -1,4 +1,6 @@
 // Three cabinets through an election, an order and a change of members, one cabinet's step at a time.
+#![tactic(auto)]
+
 use cabinet::{Cabinet, Reply};
 use journal::{Entry, EntryKind, Journal};
 use orders::SetPoint;

@@ -1,4 +1,6 @@
 // Every kind of frame: written, read back, damaged and refused.
+#![tactic(auto)]
+
 use entries::bytes_of;
 use frames::{Frame, Message, read};
 use journal::{Entry, EntryKind};

@@ -1,4 +1,6 @@
 // Journals at work: the same calls on a sheet and on a reel, small ones in full and large ones in numbers.
+#![tactic(auto)]
+
 use journal::{Entry, EntryKind, Journal};
 use records::Record;
 use refusal::Refusal;

@@ -1,4 +1,6 @@
 // A planned change of members: which sets of cabinets could carry it, under majority and under groups.
+#![tactic(auto)]
+
 use planning::{Change, shared};
 use quorum::{Group, Groups, Majority, QuorumRule, contains};
 use std::alloc::{AllocError, Global};

@@ -1,4 +1,6 @@
 // A shift's orders of both kinds: coded, read back, and refused where they are not proper.
+#![tactic(auto)]
+
 use orders::{OrderKind, Sample, SetPoint, recode, reread};
 use std::alloc::{AllocError, Global};
 

@@ -1,4 +1,6 @@
 // The calls of a station, over parts that the caller keeps and lends: a table of cabinet records, a journal, the trays, a rule.
+#![tactic(auto)]
+
 mod acting;
 mod calls;
 mod checks;

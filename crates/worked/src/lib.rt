@@ -1,4 +1,6 @@
 // Worked values, computed by hand: tables that the proved code is run against.
+#![tactic(auto)]
+
 #[cfg(test)]
 mod tests {
     use orders::{OrderKind, Sample, SetPoint};

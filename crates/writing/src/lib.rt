@@ -1,4 +1,6 @@
 // The writer: a message becomes a frame in the caller's buffer.
+#![tactic(auto)]
+
 mod buffers;
 mod journals;
 mod replies;

@@ -13,6 +13,6 @@ loop-group-preserved c =
     let group = c.loop-group.group in (
       omega arith,
       omega arith,
-      weigh_more (λ _. 1) group counts-at _ _ _ c.loop-group.invariant.2 c.weight-if-counting.ensures.0 c.standing-counts.ensures.0,
-      weigh_more (λ _. 1) group won-at _ _ _ c.loop-group.invariant.3 c.weight-if-won.ensures.0 c.standing-counts.ensures.1,
+      weigh_more (λ _. 1) group counts-at _ _ _ c.loop-group.invariant.2 c.weight_if-counting.ensures.0 c.standing-counts.ensures.0,
+      weigh_more (λ _. 1) group won-at _ _ _ c.loop-group.invariant.3 c.weight_if-won.ensures.0 c.standing-counts.ensures.1,
     )

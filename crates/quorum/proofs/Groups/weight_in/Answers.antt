@@ -13,4 +13,4 @@ loop-i-preserved c =
     let picked : ℕ → Bool = λ i. has c.args.set i && belongs c.args.self.now c.args.group i in
     let number = c.number.ensures in
     let here = ap (λ n. has c.args.set c.loop-i.i && eqb n c.args.group) number in
-    (omega arith, weigh_more weight c.loop-i.i picked _ _ _ c.loop-i.invariant.1 c.weight-if-weight.ensures.0 here)
+    (omega arith, weigh_more weight c.loop-i.i picked _ _ _ c.loop-i.invariant.1 c.weight_if-weight.ensures.0 here)
