@@ -21,11 +21,11 @@ fn enter<J: Journal, R: QuorumRule>(
     rule: &R,
     entry: Entry,
 ) -> Result<Reply, Refusal>
-    ensures answer { result ≡ said_by (listed (J.Journal.owners journal.old) (J.Journal.lists journal.old) number cabinet.old (enter_step (R.QuorumRule.quorum rule.now) (J.Journal.limit journal.old) number (J.Journal.lists journal.old number) cabinet.old entry)) }
-    ensures record { cabinet.new ≡ left_by cabinet.old (listed (J.Journal.owners journal.old) (J.Journal.lists journal.old) number cabinet.old (enter_step (R.QuorumRule.quorum rule.now) (J.Journal.limit journal.old) number (J.Journal.lists journal.old number) cabinet.old entry)) }
-    ensures lists { (p : ℕ) → J.Journal.lists journal.new p ≡ lists_by (J.Journal.lists journal.old) number (listed (J.Journal.owners journal.old) (J.Journal.lists journal.old) number cabinet.old (enter_step (R.QuorumRule.quorum rule.now) (J.Journal.limit journal.old) number (J.Journal.lists journal.old number) cabinet.old entry)) p }
-    ensures owners { J.Journal.owners journal.new ≡ J.Journal.owners journal.old }
-    ensures limit { J.Journal.limit journal.new ≡ J.Journal.limit journal.old }
+    ensures answer { result ≡ said_by (listed (J.owners journal.old) (J.lists journal.old) number cabinet.old (enter_step (R.quorum rule.now) (J.limit journal.old) number (J.lists journal.old number) cabinet.old entry)) }
+    ensures record { cabinet.new ≡ left_by cabinet.old (listed (J.owners journal.old) (J.lists journal.old) number cabinet.old (enter_step (R.quorum rule.now) (J.limit journal.old) number (J.lists journal.old number) cabinet.old entry)) }
+    ensures J.lists { (p : ℕ) → J.lists journal.new p ≡ lists_by (J.lists journal.old) number (listed (J.owners journal.old) (J.lists journal.old) number cabinet.old (enter_step (R.quorum rule.now) (J.limit journal.old) number (J.lists journal.old number) cabinet.old entry)) p }
+    ensures J.owners { J.owners journal.new ≡ J.owners journal.old }
+    ensures J.limit { J.limit journal.new ≡ J.limit journal.old }
 {
     let position = cabinet.list_length(number, journal)?;
     journal.append(number as u16, entry)?;
@@ -45,11 +45,11 @@ pub fn submit<K: OrderKind, J: Journal, R: QuorumRule>(
     rule: &R,
     order: K,
 ) -> Result<Reply, Refusal>
-    ensures answer { result ≡ said_by (listed (J.Journal.owners journal.old) (J.Journal.lists journal.old) number cabinet.old (submit_step (R.QuorumRule.quorum rule.now) (J.Journal.limit journal.old) number (J.Journal.lists journal.old number) cabinet.old (code_answer (K.OrderKind.proper order) (K.OrderKind.encode order)))) }
-    ensures record { cabinet.new ≡ left_by cabinet.old (listed (J.Journal.owners journal.old) (J.Journal.lists journal.old) number cabinet.old (submit_step (R.QuorumRule.quorum rule.now) (J.Journal.limit journal.old) number (J.Journal.lists journal.old number) cabinet.old (code_answer (K.OrderKind.proper order) (K.OrderKind.encode order)))) }
-    ensures lists { (p : ℕ) → J.Journal.lists journal.new p ≡ lists_by (J.Journal.lists journal.old) number (listed (J.Journal.owners journal.old) (J.Journal.lists journal.old) number cabinet.old (submit_step (R.QuorumRule.quorum rule.now) (J.Journal.limit journal.old) number (J.Journal.lists journal.old number) cabinet.old (code_answer (K.OrderKind.proper order) (K.OrderKind.encode order)))) p }
-    ensures owners { J.Journal.owners journal.new ≡ J.Journal.owners journal.old }
-    ensures limit { J.Journal.limit journal.new ≡ J.Journal.limit journal.old }
+    ensures answer { result ≡ said_by (listed (J.owners journal.old) (J.lists journal.old) number cabinet.old (submit_step (R.quorum rule.now) (J.limit journal.old) number (J.lists journal.old number) cabinet.old (code_answer (K.proper order) (K.encode order)))) }
+    ensures record { cabinet.new ≡ left_by cabinet.old (listed (J.owners journal.old) (J.lists journal.old) number cabinet.old (submit_step (R.quorum rule.now) (J.limit journal.old) number (J.lists journal.old number) cabinet.old (code_answer (K.proper order) (K.encode order)))) }
+    ensures J.lists { (p : ℕ) → J.lists journal.new p ≡ lists_by (J.lists journal.old) number (listed (J.owners journal.old) (J.lists journal.old) number cabinet.old (submit_step (R.quorum rule.now) (J.limit journal.old) number (J.lists journal.old number) cabinet.old (code_answer (K.proper order) (K.encode order)))) p }
+    ensures J.owners { J.owners journal.new ≡ J.owners journal.old }
+    ensures J.limit { J.limit journal.new ≡ J.limit journal.old }
 {
     cabinet.list_length(number, journal)?;
     check_leading(cabinet)?;
@@ -80,7 +80,7 @@ fn check_change<J: Journal, R: QuorumRule>(
     version: u32,
     members: u16,
 ) -> Result<(), Refusal>
-    ensures { result ≡ listed (J.Journal.owners journal.now) (J.Journal.lists journal.now) number cabinet.now (change_checks (R.QuorumRule.quorum rule.now) cabinets (J.Journal.lists journal.now number) cabinet.now version members) }
+    ensures { result ≡ listed (J.owners journal.now) (J.lists journal.now) number cabinet.now (change_checks (R.quorum rule.now) cabinets (J.lists journal.now number) cabinet.now version members) }
 {
     let length = cabinet.list_length(number, journal)?;
     if version != configurations::version(journal, number as u16)? as u32 {
@@ -108,11 +108,11 @@ pub fn change<J: Journal, R: QuorumRule>(
     version: u32,
     members: u16,
 ) -> Result<Reply, Refusal>
-    ensures answer { result ≡ said_by (listed (J.Journal.owners journal.old) (J.Journal.lists journal.old) number cabinet.old (change_step (R.QuorumRule.quorum rule.now) (J.Journal.limit journal.old) cabinets number (J.Journal.lists journal.old number) cabinet.old version members)) }
-    ensures record { cabinet.new ≡ left_by cabinet.old (listed (J.Journal.owners journal.old) (J.Journal.lists journal.old) number cabinet.old (change_step (R.QuorumRule.quorum rule.now) (J.Journal.limit journal.old) cabinets number (J.Journal.lists journal.old number) cabinet.old version members)) }
-    ensures lists { (p : ℕ) → J.Journal.lists journal.new p ≡ lists_by (J.Journal.lists journal.old) number (listed (J.Journal.owners journal.old) (J.Journal.lists journal.old) number cabinet.old (change_step (R.QuorumRule.quorum rule.now) (J.Journal.limit journal.old) cabinets number (J.Journal.lists journal.old number) cabinet.old version members)) p }
-    ensures owners { J.Journal.owners journal.new ≡ J.Journal.owners journal.old }
-    ensures limit { J.Journal.limit journal.new ≡ J.Journal.limit journal.old }
+    ensures answer { result ≡ said_by (listed (J.owners journal.old) (J.lists journal.old) number cabinet.old (change_step (R.quorum rule.now) (J.limit journal.old) cabinets number (J.lists journal.old number) cabinet.old version members)) }
+    ensures record { cabinet.new ≡ left_by cabinet.old (listed (J.owners journal.old) (J.lists journal.old) number cabinet.old (change_step (R.quorum rule.now) (J.limit journal.old) cabinets number (J.lists journal.old number) cabinet.old version members)) }
+    ensures J.lists { (p : ℕ) → J.lists journal.new p ≡ lists_by (J.lists journal.old) number (listed (J.owners journal.old) (J.lists journal.old) number cabinet.old (change_step (R.quorum rule.now) (J.limit journal.old) cabinets number (J.lists journal.old number) cabinet.old version members)) p }
+    ensures J.owners { J.owners journal.new ≡ J.owners journal.old }
+    ensures J.limit { J.limit journal.new ≡ J.limit journal.old }
 {
     cabinet.list_length(number, journal)?;
     check_leading(cabinet)?;

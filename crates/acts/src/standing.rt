@@ -16,8 +16,8 @@ pub fn stand<J: Journal, R: QuorumRule>(
     journal: &J,
     rule: &R,
 ) -> Result<Reply, Refusal>
-    ensures answer { result ≡ said_by (listed (J.Journal.owners journal.now) (J.Journal.lists journal.now) number cabinet.old (stand_step (R.QuorumRule.quorum rule.now) number (J.Journal.lists journal.now number) cabinet.old)) }
-    ensures record { cabinet.new ≡ left_by cabinet.old (listed (J.Journal.owners journal.now) (J.Journal.lists journal.now) number cabinet.old (stand_step (R.QuorumRule.quorum rule.now) number (J.Journal.lists journal.now number) cabinet.old)) }
+    ensures answer { result ≡ said_by (listed (J.owners journal.now) (J.lists journal.now) number cabinet.old (stand_step (R.quorum rule.now) number (J.lists journal.now number) cabinet.old)) }
+    ensures record { cabinet.new ≡ left_by cabinet.old (listed (J.owners journal.now) (J.lists journal.now) number cabinet.old (stand_step (R.quorum rule.now) number (J.lists journal.now number) cabinet.old)) }
 {
     let length = cabinet.list_length(number, journal)?;
     if !in_play(journal, number as u16, cabinet.mark, number)? {
@@ -47,7 +47,7 @@ pub(crate) fn check_leading(cabinet: &Cabinet) -> Result<(), Refusal>
 
 // Says its whole list again.
 pub fn refresh<J: Journal>(cabinet: &Cabinet, number: u8, journal: &J) -> Result<Reply, Refusal>
-    ensures { result ≡ said_by (listed (owners journal.now) (lists journal.now) number cabinet.now (refresh_step (lists journal.now number) cabinet.now)) }
+    ensures { result ≡ said_by (listed (J.owners journal.now) (J.lists journal.now) number cabinet.now (refresh_step (J.lists journal.now number) cabinet.now)) }
 {
     cabinet.list_length(number, journal)?;
     check_leading(cabinet)?;

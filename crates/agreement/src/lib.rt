@@ -17,7 +17,7 @@ pub fn agreement<K: OrderKind, J: Journal, R: QuorumRule>(
     trays: &[u8],
     rule: &R,
 ) -> u8
-    ensures { Agreement (kind_of K.OrderKind.proper K.OrderKind.encode K.OrderKind.decode) (R.QuorumRule.quorum rule.now) (station table.now (J.Journal.owners journal.now) (J.Journal.limit journal.now) (J.Journal.lists journal.now) trays.now) }
+    ensures { Agreement (kind_of K.proper K.encode K.decode) (R.quorum rule.now) (station table.now (J.owners journal.now) (J.limit journal.now) (J.lists journal.now) trays.now) }
 {
     0
 }

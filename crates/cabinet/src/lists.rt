@@ -8,7 +8,7 @@ use refusal::Refusal;
 impl Cabinet {
     // The length of the cabinet's list; 50 where it ends before the mark.
     pub fn list_length<J: Journal>(&self, number: u8, journal: &J) -> Result<u16, Refusal>
-        ensures { result ≡ listed (owners journal.now) (lists journal.now) number self.now (Ok (length (lists journal.now number))) }
+        ensures { result ≡ listed (J.owners journal.now) (J.lists journal.now) number self.now (Ok (length (J.lists journal.now number))) }
     {
         let length = journal.length(number as u16)?;
         if self.mark <= length {

@@ -17,7 +17,7 @@ pub fn rise<J: Journal, R: QuorumRule>(
     journal: &J,
     rule: &R,
 ) -> Result<Rest, Refusal>
-    ensures { result ≡ front_answer (J.Journal.owners journal.now) (J.Journal.lists journal.now) owner cabinet.now.mark (rest_at (J.Journal.lists journal.now owner) (reached (R.QuorumRule.quorum rule.now) (J.Journal.lists journal.now owner) cabinet.now)) }
+    ensures { result ≡ front_answer (J.owners journal.now) (J.lists journal.now) owner cabinet.now.mark (rest_at (J.lists journal.now owner) (reached (R.quorum rule.now) (J.lists journal.now owner) cabinet.now)) }
 {
     let count = journal.length(owner)?;
     let mut members = members_before(journal, owner, cabinet.mark)?;
@@ -41,8 +41,8 @@ pub fn commit<J: Journal, R: QuorumRule>(
     journal: &J,
     rule: &R,
 ) -> Result<(), Refusal>
-    ensures answer { result ≡ done (commit_answer (J.Journal.owners journal.now) (J.Journal.lists journal.now) (R.QuorumRule.quorum rule.now) number cabinet.old) }
-    ensures record { cabinet.new ≡ after cabinet.old (commit_answer (J.Journal.owners journal.now) (J.Journal.lists journal.now) (R.QuorumRule.quorum rule.now) number cabinet.old) }
+    ensures answer { result ≡ done (commit_answer (J.owners journal.now) (J.lists journal.now) (R.quorum rule.now) number cabinet.old) }
+    ensures record { cabinet.new ≡ after cabinet.old (commit_answer (J.owners journal.now) (J.lists journal.now) (R.quorum rule.now) number cabinet.old) }
 {
     let rest = rise(cabinet, number as u16, journal, rule)?;
     let moved = cabinet.mark < rest.mark;
@@ -60,8 +60,8 @@ pub fn win<J: Journal, R: QuorumRule>(
     journal: &J,
     rule: &R,
 ) -> Result<bool, Refusal>
-    ensures answer { result ≡ front_answer (J.Journal.owners journal.now) (J.Journal.lists journal.now) number cabinet.old.mark (elected (R.QuorumRule.quorum rule.now) (J.Journal.lists journal.now number) cabinet.old) }
-    ensures record { cabinet.new ≡ after cabinet.old (win_answer (J.Journal.owners journal.now) (J.Journal.lists journal.now) (R.QuorumRule.quorum rule.now) number cabinet.old) }
+    ensures answer { result ≡ front_answer (J.owners journal.now) (J.lists journal.now) number cabinet.old.mark (elected (R.quorum rule.now) (J.lists journal.now number) cabinet.old) }
+    ensures record { cabinet.new ≡ after cabinet.old (win_answer (J.owners journal.now) (J.lists journal.now) (R.quorum rule.now) number cabinet.old) }
 {
     if !elects(journal, number as u16, cabinet.mark, rule, cabinet.gathered)? {
         return Ok(false);

@@ -39,14 +39,14 @@ pub fn members_after(entry: Entry, before: u16) -> u16
 
 // Whether a set commits an entry: a quorum of the members before it, and of its own where it is a configuration.
 pub fn commits<R: QuorumRule>(rule: &R, before: u16, entry: Entry, set: u16) -> bool
-    ensures { result ≡ commits_entry (quorum rule.now) before entry set }
+    ensures { result ≡ commits_entry (R.quorum rule.now) before entry set }
 {
     rule.is_quorum(before, set) & (!is_configuration(entry) || rule.is_quorum(entry.members(), set))
 }
 
 // Where the last configuration among the first `count` entries stands. One pass over them.
 pub fn last_before<J: Journal>(journal: &J, owner: u16, count: u16) -> Result<u16, Refusal>
-    ensures { result ≡ front_answer (owners journal.now) (lists journal.now) owner count (last_before (lists journal.now owner) count) }
+    ensures { result ≡ front_answer (J.owners journal.now) (J.lists journal.now) owner count (last_before (J.lists journal.now owner) count) }
 {
     if count > journal.length(owner)? {
         return Err(Refusal::NoPosition);
@@ -61,7 +61,7 @@ pub fn last_before<J: Journal>(journal: &J, owner: u16, count: u16) -> Result<u1
 
 // The members by the last configuration among the first `count` entries. One pass over them.
 pub fn members_before<J: Journal>(journal: &J, owner: u16, count: u16) -> Result<u16, Refusal>
-    ensures { result ≡ front_answer (owners journal.now) (lists journal.now) owner count (members_before (lists journal.now owner) count) }
+    ensures { result ≡ front_answer (J.owners journal.now) (J.lists journal.now) owner count (members_before (J.lists journal.now owner) count) }
 {
     if count > journal.length(owner)? {
         return Err(Refusal::NoPosition);
@@ -76,7 +76,7 @@ pub fn members_before<J: Journal>(journal: &J, owner: u16, count: u16) -> Result
 
 // The version of the last configuration: how many there are. One pass over the list.
 pub fn version<J: Journal>(journal: &J, owner: u16) -> Result<u16, Refusal>
-    ensures { result ≡ owned (owners journal.now) owner (Ok (version_before (lists journal.now owner) (length (lists journal.now owner)))) }
+    ensures { result ≡ owned (J.owners journal.now) owner (Ok (version_before (J.lists journal.now owner) (length (J.lists journal.now owner)))) }
 {
     let count = journal.length(owner)?;
     let mut version = 0;
@@ -89,7 +89,7 @@ pub fn version<J: Journal>(journal: &J, owner: u16) -> Result<u16, Refusal>
 
 // Whether an entry is no configuration or its members pass the test.
 fn passes<T: MembersTest>(test: &T, entry: Entry) -> bool
-    ensures { result ≡ (not (is_configuration entry.kind) || holds test.now (members_of entry.body)) }
+    ensures { result ≡ (not (is_configuration entry.kind) || T.holds test.now (members_of entry.body)) }
 {
     !is_configuration(entry) || test.holds(entry.members())
 }
@@ -101,7 +101,7 @@ fn each_from<J: Journal, T: MembersTest>(
     from: u16,
     test: &T,
 ) -> Result<bool, Refusal>
-    ensures { result ≡ owned (J.Journal.owners journal.now) owner (Ok (each_from (T.MembersTest.holds test.now) (J.Journal.lists journal.now owner) from (length (J.Journal.lists journal.now owner) - from))) }
+    ensures { result ≡ owned (J.owners journal.now) owner (Ok (each_from (T.holds test.now) (J.lists journal.now owner) from (length (J.lists journal.now owner) - from))) }
 {
     let count = journal.length(owner)?;
     let mut each = true;
@@ -119,7 +119,7 @@ fn each_in_play<J: Journal, T: MembersTest>(
     mark: u16,
     test: &T,
 ) -> Result<bool, Refusal>
-    ensures { result ≡ front_answer (J.Journal.owners journal.now) (J.Journal.lists journal.now) owner mark (each_in_play (T.MembersTest.holds test.now) (J.Journal.lists journal.now owner) mark) }
+    ensures { result ≡ front_answer (J.owners journal.now) (J.lists journal.now) owner mark (each_in_play (T.holds test.now) (J.lists journal.now owner) mark) }
 {
     let from = last_before(journal, owner, mark)?;
     each_from(journal, owner, from, test)
@@ -133,14 +133,14 @@ pub fn elects<J: Journal, R: QuorumRule>(
     rule: &R,
     set: u16,
 ) -> Result<bool, Refusal>
-    ensures { result ≡ front_answer (J.Journal.owners journal.now) (J.Journal.lists journal.now) owner mark (elects_by (R.QuorumRule.quorum rule.now) (J.Journal.lists journal.now owner) mark set) }
+    ensures { result ≡ front_answer (J.owners journal.now) (J.lists journal.now) owner mark (elects_by (R.quorum rule.now) (J.lists journal.now owner) mark set) }
 {
     each_in_play(journal, owner, mark, &IsQuorum { rule, set })
 }
 
 // Whether the cabinet is in a configuration in play at a mark.
 pub fn in_play<J: Journal>(journal: &J, owner: u16, mark: u16, cabinet: u8) -> Result<bool, Refusal>
-    ensures { result ≡ front_answer (owners journal.now) (lists journal.now) owner mark (in_play (lists journal.now owner) mark cabinet) }
+    ensures { result ≡ front_answer (J.owners journal.now) (J.lists journal.now) owner mark (in_play (J.lists journal.now owner) mark cabinet) }
 {
     let absent = each_in_play(journal, owner, mark, &Lacks { cabinet })?;
     Ok(!absent)

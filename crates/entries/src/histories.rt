@@ -19,7 +19,7 @@ fn opens(bytes: &[u8]) -> bool
 
 // Whether the entries that bytes spell are without fault, none of them above the epoch `most`.
 pub fn is_faultless<K: OrderKind>(cabinets: u8, most: u32, bytes: &[u8]) -> bool
-    ensures { result ≡ faultless (codes_of decode) cabinets most (entries_of bytes.now) }
+    ensures { result ≡ faultless (codes_of K.decode) cabinets most (entries_of bytes.now) }
 {
     if !opens(bytes) {
         return false;
@@ -42,7 +42,7 @@ pub fn is_list_faultless<K: OrderKind, J: Journal>(
     journal: &J,
     owner: u16,
 ) -> Result<bool, Refusal>
-    ensures { result ≡ owned (J.Journal.owners journal.now) owner (Ok (faultless (codes_of K.OrderKind.decode) cabinets most (J.Journal.lists journal.now owner))) }
+    ensures { result ≡ owned (J.owners journal.now) owner (Ok (faultless (codes_of K.decode) cabinets most (J.lists journal.now owner))) }
 {
     let count = journal.length(owner)?;
     if count == 0 {

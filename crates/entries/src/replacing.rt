@@ -10,10 +10,10 @@ use refusal::Refusal;
 // The owner's list becomes the entries that bytes spell.
 // Refused by 2 where there is no such owner, by 41 where the entries are more than the limit.
 pub fn replace<J: Journal>(journal: &mut J, owner: u16, bytes: &[u8]) -> Result<(), Refusal>
-    ensures answer { result ≡ replace_answer (owners journal.old) (limit journal.old) owner (entries_of bytes.now) }
-    ensures lists { (p : ℕ) → lists journal.new p ≡ replace_lists (owners journal.old) (limit journal.old) (lists journal.old) owner (entries_of bytes.now) p }
-    ensures owners { owners journal.new ≡ owners journal.old }
-    ensures limit { limit journal.new ≡ limit journal.old }
+    ensures answer { result ≡ replace_answer (J.owners journal.old) (J.limit journal.old) owner (entries_of bytes.now) }
+    ensures J.lists { (p : ℕ) → J.lists journal.new p ≡ replace_lists (J.owners journal.old) (J.limit journal.old) (J.lists journal.old) owner (entries_of bytes.now) p }
+    ensures J.owners { J.owners journal.new ≡ J.owners journal.old }
+    ensures J.limit { J.limit journal.new ≡ J.limit journal.old }
 {
     if owner >= journal.owners() {
         return Err(Refusal::NoCabinet);

@@ -14,7 +14,7 @@ pub fn names_members(cabinets: u8, entry: Entry) -> bool
 }
 
 pub fn body_fits<K: OrderKind>(cabinets: u8, entry: Entry) -> bool
-    ensures { result ≡ body_fits (codes_of decode) cabinets entry.kind entry.body }
+    ensures { result ≡ body_fits (codes_of K.decode) cabinets entry.kind entry.body }
 {
     match entry.kind {
         EntryKind::Configuration => names_members(cabinets, entry),
@@ -24,7 +24,7 @@ pub fn body_fits<K: OrderKind>(cabinets: u8, entry: Entry) -> bool
 
 // Whether an entry may follow one of epoch `last` in a list whose epochs go up to `most`.
 pub fn entry_fits<K: OrderKind>(cabinets: u8, most: u32, last: u32, entry: Entry) -> bool
-    ensures { result ≡ entry_fits (codes_of decode) cabinets most last entry }
+    ensures { result ≡ entry_fits (codes_of K.decode) cabinets most last entry }
 {
     last <= entry.epoch && entry.epoch <= most && body_fits::<K>(cabinets, entry)
 }

@@ -39,7 +39,7 @@ fn message_of<'a>(fields: &Fields, part: &'a [u8]) -> Message<'a>
 
 // Whether an entry frame's entry has the frame's epoch and a body of its kind.
 fn entry_is_of<K: OrderKind>(cabinets: u8, epoch: u32, part: &[u8]) -> bool
-    ensures { result ≡ entries_fit (codes_of decode) cabinets Entry epoch (entries_of part.now) }
+    ensures { result ≡ entries_fit (codes_of K.decode) cabinets Entry epoch (entries_of part.now) }
 {
     match entry(part, 0) {
         Ok(first) => first.epoch == epoch && body_fits::<K>(cabinets, first),
@@ -48,7 +48,7 @@ fn entry_is_of<K: OrderKind>(cabinets: u8, epoch: u32, part: &[u8]) -> bool
 }
 
 fn entries_fit<K: OrderKind>(cabinets: u8, kind: FrameKind, epoch: u32, part: &[u8]) -> bool
-    ensures { result ≡ entries_fit (codes_of decode) cabinets kind epoch (entries_of part.now) }
+    ensures { result ≡ entries_fit (codes_of K.decode) cabinets kind epoch (entries_of part.now) }
 {
     match kind {
         FrameKind::History => is_faultless::<K>(cabinets, epoch, part),
@@ -65,7 +65,7 @@ pub fn check_ranges<K: OrderKind>(
     fields: &Fields,
     part: &[u8],
 ) -> Result<(), Refusal>
-    ensures { result ≡ ranges_answer (codes_of decode) cabinets limit fields.now (entries_of part.now) }
+    ensures { result ≡ ranges_answer (codes_of K.decode) cabinets limit fields.now (entries_of part.now) }
 {
     check_fields(cabinets, limit, fields)?;
     if entries_fit::<K>(cabinets, fields.kind, fields.epoch, part) {
@@ -82,7 +82,7 @@ pub fn read<'a, K: OrderKind>(
     limit: u16,
     bytes: &'a [u8],
 ) -> Result<Frame<'a>, Refusal>
-    ensures { letters result ≡ decoded (codes_of decode) cabinets limit bytes.now }
+    ensures { letters result ≡ decoded (codes_of K.decode) cabinets limit bytes.now }
 {
     check_bounds(cabinets, limit)?;
     let header = read_header(bytes)?;

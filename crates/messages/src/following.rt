@@ -21,8 +21,8 @@ pub fn take_commit<J: Journal>(
     journal: &J,
     mark: u32,
 ) -> Result<Reply, Refusal>
-    ensures answer { result ≡ said_by (listed (owners journal.now) (lists journal.now) number cabinet.old (commit_step (lists journal.now number) cabinet.old mark)) }
-    ensures record { cabinet.new ≡ left_by cabinet.old (listed (owners journal.now) (lists journal.now) number cabinet.old (commit_step (lists journal.now number) cabinet.old mark)) }
+    ensures answer { result ≡ said_by (listed (J.owners journal.now) (J.lists journal.now) number cabinet.old (commit_step (J.lists journal.now number) cabinet.old mark)) }
+    ensures record { cabinet.new ≡ left_by cabinet.old (listed (J.owners journal.now) (J.lists journal.now) number cabinet.old (commit_step (J.lists journal.now number) cabinet.old mark)) }
 {
     let length = cabinet.list_length(number, journal)?;
     take_mark(cabinet, length, mark);
@@ -38,11 +38,11 @@ pub fn take_entry<J: Journal>(
     mark: u32,
     entry: Entry,
 ) -> Result<Reply, Refusal>
-    ensures answer { result ≡ said_by (listed (owners journal.old) (lists journal.old) number cabinet.old (entry_step (limit journal.old) (lists journal.old number) cabinet.old position mark entry)) }
-    ensures record { cabinet.new ≡ left_by cabinet.old (listed (owners journal.old) (lists journal.old) number cabinet.old (entry_step (limit journal.old) (lists journal.old number) cabinet.old position mark entry)) }
-    ensures lists { (p : ℕ) → lists journal.new p ≡ lists_by (lists journal.old) number (listed (owners journal.old) (lists journal.old) number cabinet.old (entry_step (limit journal.old) (lists journal.old number) cabinet.old position mark entry)) p }
-    ensures owners { owners journal.new ≡ owners journal.old }
-    ensures limit { limit journal.new ≡ limit journal.old }
+    ensures answer { result ≡ said_by (listed (J.owners journal.old) (J.lists journal.old) number cabinet.old (entry_step (J.limit journal.old) (J.lists journal.old number) cabinet.old position mark entry)) }
+    ensures record { cabinet.new ≡ left_by cabinet.old (listed (J.owners journal.old) (J.lists journal.old) number cabinet.old (entry_step (J.limit journal.old) (J.lists journal.old number) cabinet.old position mark entry)) }
+    ensures J.lists { (p : ℕ) → J.lists journal.new p ≡ lists_by (J.lists journal.old) number (listed (J.owners journal.old) (J.lists journal.old) number cabinet.old (entry_step (J.limit journal.old) (J.lists journal.old number) cabinet.old position mark entry)) p }
+    ensures J.owners { J.owners journal.new ≡ J.owners journal.old }
+    ensures J.limit { J.limit journal.new ≡ J.limit journal.old }
 {
     let length = cabinet.list_length(number, journal)?;
     if position < length as u32 {

@@ -28,10 +28,10 @@ fn is_same_front<J: Journal>(
     entries: &[u8],
     count: u16,
 ) -> Result<bool, Refusal>
-    requires owner { owner < owners journal.now }
-    requires list { count ≤ length (lists journal.now owner) }
+    requires owner { owner < J.owners journal.now }
+    requires list { count ≤ length (J.lists journal.now owner) }
     requires history { count ≤ length (entries_of entries.now) }
-    ensures { result ≡ Ok (same_front (lists journal.now owner) (entries_of entries.now) count) }
+    ensures { result ≡ Ok (same_front (J.lists journal.now owner) (entries_of entries.now) count) }
 {
     let mut same = true;
     for k in 0..count {
@@ -49,7 +49,7 @@ fn keeps_committed<J: Journal>(
     journal: &J,
     entries: &[u8],
 ) -> Result<bool, Refusal>
-    ensures { result ≡ listed (owners journal.now) (lists journal.now) number cabinet.now (Ok (keeps_committed (lists journal.now number) cabinet.now (entries_of entries.now))) }
+    ensures { result ≡ listed (J.owners journal.now) (J.lists journal.now) number cabinet.now (Ok (keeps_committed (J.lists journal.now number) cabinet.now (entries_of entries.now))) }
 {
     cabinet.list_length(number, journal)?;
     if count_of(entries) < cabinet.mark as usize {
@@ -77,11 +77,11 @@ fn adopt<J: Journal>(
     entries: &[u8],
 ) -> Result<Reply, Refusal>
     requires { mark ≤ length (entries_of entries.now) }
-    ensures answer { result ≡ said_by (listed (owners journal.old) (lists journal.old) number cabinet.old (adopt_step (limit journal.old) (lists journal.old number) cabinet.old epoch mark (entries_of entries.now))) }
-    ensures record { cabinet.new ≡ left_by cabinet.old (listed (owners journal.old) (lists journal.old) number cabinet.old (adopt_step (limit journal.old) (lists journal.old number) cabinet.old epoch mark (entries_of entries.now))) }
-    ensures lists { (p : ℕ) → lists journal.new p ≡ lists_by (lists journal.old) number (listed (owners journal.old) (lists journal.old) number cabinet.old (adopt_step (limit journal.old) (lists journal.old number) cabinet.old epoch mark (entries_of entries.now))) p }
-    ensures owners { owners journal.new ≡ owners journal.old }
-    ensures limit { limit journal.new ≡ limit journal.old }
+    ensures answer { result ≡ said_by (listed (J.owners journal.old) (J.lists journal.old) number cabinet.old (adopt_step (J.limit journal.old) (J.lists journal.old number) cabinet.old epoch mark (entries_of entries.now))) }
+    ensures record { cabinet.new ≡ left_by cabinet.old (listed (J.owners journal.old) (J.lists journal.old) number cabinet.old (adopt_step (J.limit journal.old) (J.lists journal.old number) cabinet.old epoch mark (entries_of entries.now))) }
+    ensures J.lists { (p : ℕ) → J.lists journal.new p ≡ lists_by (J.lists journal.old) number (listed (J.owners journal.old) (J.lists journal.old) number cabinet.old (adopt_step (J.limit journal.old) (J.lists journal.old number) cabinet.old epoch mark (entries_of entries.now))) p }
+    ensures J.owners { J.owners journal.new ≡ J.owners journal.old }
+    ensures J.limit { J.limit journal.new ≡ J.limit journal.old }
 {
     cabinet.list_length(number, journal)?;
     let count = count_of(entries);
@@ -107,11 +107,11 @@ pub fn take_history<J: Journal>(
     mark: u32,
     entries: &[u8],
 ) -> Result<Reply, Refusal>
-    ensures answer { result ≡ said_by (listed (owners journal.old) (lists journal.old) number cabinet.old (history_step (limit journal.old) (lists journal.old number) cabinet.old epoch mark (entries_of entries.now))) }
-    ensures record { cabinet.new ≡ left_by cabinet.old (listed (owners journal.old) (lists journal.old) number cabinet.old (history_step (limit journal.old) (lists journal.old number) cabinet.old epoch mark (entries_of entries.now))) }
-    ensures lists { (p : ℕ) → lists journal.new p ≡ lists_by (lists journal.old) number (listed (owners journal.old) (lists journal.old) number cabinet.old (history_step (limit journal.old) (lists journal.old number) cabinet.old epoch mark (entries_of entries.now))) p }
-    ensures owners { owners journal.new ≡ owners journal.old }
-    ensures limit { limit journal.new ≡ limit journal.old }
+    ensures answer { result ≡ said_by (listed (J.owners journal.old) (J.lists journal.old) number cabinet.old (history_step (J.limit journal.old) (J.lists journal.old number) cabinet.old epoch mark (entries_of entries.now))) }
+    ensures record { cabinet.new ≡ left_by cabinet.old (listed (J.owners journal.old) (J.lists journal.old) number cabinet.old (history_step (J.limit journal.old) (J.lists journal.old number) cabinet.old epoch mark (entries_of entries.now))) }
+    ensures J.lists { (p : ℕ) → J.lists journal.new p ≡ lists_by (J.lists journal.old) number (listed (J.owners journal.old) (J.lists journal.old) number cabinet.old (history_step (J.limit journal.old) (J.lists journal.old number) cabinet.old epoch mark (entries_of entries.now))) p }
+    ensures J.owners { J.owners journal.new ≡ J.owners journal.old }
+    ensures J.limit { J.limit journal.new ≡ J.limit journal.old }
 {
     let length = cabinet.list_length(number, journal)?;
     let count = count_of(entries);

@@ -25,8 +25,8 @@ pub fn take_candidate<J: Journal>(
     accepted: u32,
     length: u32,
 ) -> Result<Reply, Refusal>
-    ensures answer { result ≡ said_by (listed (owners journal.now) (lists journal.now) number cabinet.old (candidate_step (lists journal.now number) cabinet.old epoch accepted length)) }
-    ensures record { cabinet.new ≡ left_by cabinet.old (listed (owners journal.now) (lists journal.now) number cabinet.old (candidate_step (lists journal.now number) cabinet.old epoch accepted length)) }
+    ensures answer { result ≡ said_by (listed (J.owners journal.now) (J.lists journal.now) number cabinet.old (candidate_step (J.lists journal.now number) cabinet.old epoch accepted length)) }
+    ensures record { cabinet.new ≡ left_by cabinet.old (listed (J.owners journal.now) (J.lists journal.now) number cabinet.old (candidate_step (J.lists journal.now number) cabinet.old epoch accepted length)) }
 {
     let own = (
         cabinet.accepted,
@@ -47,8 +47,8 @@ pub fn take_promise<J: Journal, R: QuorumRule>(
     rule: &R,
     sender: u8,
 ) -> Result<Reply, Refusal>
-    ensures answer { result ≡ said_by (listed (J.Journal.owners journal.now) (J.Journal.lists journal.now) number cabinet.old (promise_step (R.QuorumRule.quorum rule.now) number (J.Journal.lists journal.now number) cabinet.old sender)) }
-    ensures record { cabinet.new ≡ left_by cabinet.old (listed (J.Journal.owners journal.now) (J.Journal.lists journal.now) number cabinet.old (promise_step (R.QuorumRule.quorum rule.now) number (J.Journal.lists journal.now number) cabinet.old sender)) }
+    ensures answer { result ≡ said_by (listed (J.owners journal.now) (J.lists journal.now) number cabinet.old (promise_step (R.quorum rule.now) number (J.lists journal.now number) cabinet.old sender)) }
+    ensures record { cabinet.new ≡ left_by cabinet.old (listed (J.owners journal.now) (J.lists journal.now) number cabinet.old (promise_step (R.quorum rule.now) number (J.lists journal.now number) cabinet.old sender)) }
 {
     cabinet.list_length(number, journal)?;
     cabinet.gather(sender);
@@ -67,8 +67,8 @@ pub fn take_acknowledge<J: Journal, R: QuorumRule>(
     sender: u8,
     length: u32,
 ) -> Result<Reply, Refusal>
-    ensures answer { result ≡ said_by (listed (J.Journal.owners journal.now) (J.Journal.lists journal.now) number cabinet.old (acknowledge_step (R.QuorumRule.quorum rule.now) number (J.Journal.lists journal.now number) cabinet.old sender length)) }
-    ensures record { cabinet.new ≡ left_by cabinet.old (listed (J.Journal.owners journal.now) (J.Journal.lists journal.now) number cabinet.old (acknowledge_step (R.QuorumRule.quorum rule.now) number (J.Journal.lists journal.now number) cabinet.old sender length)) }
+    ensures answer { result ≡ said_by (listed (J.owners journal.now) (J.lists journal.now) number cabinet.old (acknowledge_step (R.quorum rule.now) number (J.lists journal.now number) cabinet.old sender length)) }
+    ensures record { cabinet.new ≡ left_by cabinet.old (listed (J.owners journal.now) (J.lists journal.now) number cabinet.old (acknowledge_step (R.quorum rule.now) number (J.lists journal.now number) cabinet.old sender length)) }
 {
     let most = cabinet.list_length(number, journal)?;
     if length > most as u32 {

@@ -3,3 +3,4 @@ pub mod Kinds
 pub mod Samples
 pub mod SetPoints
 pub mod Reading
+pub mod Lawful

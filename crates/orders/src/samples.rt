@@ -1,8 +1,5 @@
-ghost use Rattle.orders.specs.Samples.{proper, encode, decode, fields_of};
-ghost use Rattle.std.proofs.Common.{ap, sym, ◌∙◌, arith};
-ghost use Rattle.orders.specs.Samples;
-ghost use Rattle.orders.specs.Reading.{joined_again, if_proper_some};
-ghost use Rattle.std.proofs.lemmas.Bool.Decides.{nat_tests};
+ghost use Rattle.orders.specs.Samples.{proper, encode, decode};
+ghost use Rattle.orders.specs.Lawful.{sample_reads_back, sample_reads_codes_only, sample_codes_differ, sample_codes_fit};
 
 use crate::{OrderKind, Sample, codes};
 use refusal::Refusal;
@@ -14,11 +11,13 @@ impl OrderKind for Sample {
 
     ghost decode = { decode };
 
-    ghost reads_codes_only = { λ n x read.
-        let found = if_proper_some Samples.proper (fields_of n) x read in
-        (found.0, sym (ap Samples.encode found.1) ∙ joined_again n) };
+    ghost reads_back = { sample_reads_back };
 
-    ghost codes_fit = { λ x fits. Prim.grind (arith, nat_tests) };
+    ghost reads_codes_only = { sample_reads_codes_only };
+
+    ghost codes_differ = { sample_codes_differ };
+
+    ghost codes_fit = { sample_codes_fit };
 
     fn is_proper(self) -> bool {
         codes::in_range(self.juice as u16, 1, 6) & codes::in_range(self.reading, 0, 10_000)

@@ -1,13 +1,5 @@
-ghost use Rattle.orders.specs.SetPoints.{proper, encode, decode, fields_of};
-ghost use Rattle.std.proofs.Common.{ap, sym, ◌∙◌, arith};
-ghost use Rattle.std.specs.Prelude.{◌^◌};
-ghost use Rattle.std.specs.Int.{w32};
-ghost use Rattle.std.proofs.lemmas.Nat.{mod_below, pow_pos};
-ghost use Rattle.std.proofs.lemmas.Int.{of_z-to_z};
-ghost use Rattle.orders.specs.Codes.{joined, low_of, middle_of, high_of};
-ghost use Rattle.orders.specs.SetPoints;
-ghost use Rattle.orders.specs.Reading.{joined_again, if_proper_some};
-ghost use Rattle.std.proofs.lemmas.Bool.Decides.{nat_tests};
+ghost use Rattle.orders.specs.SetPoints.{proper, encode, decode};
+ghost use Rattle.orders.specs.Lawful.{set_point_reads_back, set_point_reads_codes_only, set_point_codes_differ, set_point_codes_fit};
 
 use crate::{OrderKind, SetPoint, codes};
 use refusal::Refusal;
@@ -19,12 +11,13 @@ impl OrderKind for SetPoint {
 
     ghost decode = { decode };
 
-    ghost reads_codes_only = { λ n x read.
-        let found = if_proper_some SetPoints.proper (fields_of n) x read in
-        let word = of_z-to_z w32 (low_of n) (mod_below n (2 ^ 32) (pow_pos 32)) in
-        (found.0, sym (ap SetPoints.encode found.1) ∙ ap (λ low. joined low (middle_of n) (high_of n)) word ∙ joined_again n) };
+    ghost reads_back = { set_point_reads_back };
 
-    ghost codes_fit = { λ x fits. Prim.grind (arith, nat_tests) };
+    ghost reads_codes_only = { set_point_reads_codes_only };
+
+    ghost codes_differ = { set_point_codes_differ };
+
+    ghost codes_fit = { set_point_codes_fit };
 
     fn is_proper(self) -> bool {
         codes::in_range(self.effect as u16, 1, 5) & codes::in_range(self.quantity as u16, 1, 4)

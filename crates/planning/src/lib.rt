@@ -16,14 +16,14 @@ pub struct Change {
 impl Change {
     // Whether the change commits once the cabinets of the set hold it.
     pub fn is_carried<R: QuorumRule>(self, rule: &R, set: u16) -> bool
-        ensures { result ≡ carried (quorum rule.now) self set }
+        ensures { result ≡ carried (R.quorum rule.now) self set }
     {
         rule.is_quorum(self.old, set) & rule.is_quorum(self.new, set)
     }
 
     // Whether the set carries the change and can spare no cabinet.
     pub fn is_least<R: QuorumRule>(self, rule: &R, set: u16) -> bool
-        ensures { Decides result (Least (quorum rule.now) self set) }
+        ensures { Decides result (Least (R.quorum rule.now) self set) }
     {
         if !self.is_carried(rule, set) {
             return false;
@@ -41,7 +41,7 @@ impl Change {
 // The lowest member that is in both sets. Two quorums always have one.
 pub fn shared<R: QuorumRule>(rule: &R, members: u16, a: u16, b: u16) -> Option<u8>
     ensures found { MatchOption result ((i : ℕ) → Shared members a b i → ⊥) (λ i. FirstShared members a b i) }
-    ensures quorums { quorum rule.now members a ≡ true → quorum rule.now members b ≡ true → is_some result ≡ true }
+    ensures quorums { R.quorum rule.now members a ≡ true → R.quorum rule.now members b ≡ true → is_some result ≡ true }
 {
     for i in 0..16u8 {
         if contains(members & a & b, i) {

@@ -16,7 +16,7 @@ pub fn committed<K: OrderKind, J: Journal>(
     journal: &J,
     position: u16,
 ) -> Result<Entry, Refusal>
-    ensures { result ≡ committed_answer (codes_of K.OrderKind.decode) cabinets (J.Journal.owners journal.now) (J.Journal.limit journal.now) number (J.Journal.lists journal.now number) cabinet.now position }
+    ensures { result ≡ committed_answer (codes_of K.decode) cabinets (J.owners journal.now) (J.limit journal.now) number (J.lists journal.now number) cabinet.now position }
 {
     check::<K, J>(cabinets, number, cabinet, journal)?;
     if position < cabinet.mark {

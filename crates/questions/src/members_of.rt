@@ -43,9 +43,9 @@ pub fn roster<K: OrderKind, J: Journal>(
     journal: &J,
     list: &mut [u8],
 ) -> Result<u8, Refusal>
-    ensures answer { result ≡ roster_answer (codes_of K.OrderKind.decode) cabinets (J.Journal.owners journal.now) (J.Journal.limit journal.now) number (J.Journal.lists journal.now number) cabinet.now (length list.old) }
-    ensures front { Enrolled (committed_members (J.Journal.lists journal.now number) cabinet.now) list.new (roster_answer (codes_of K.OrderKind.decode) cabinets (J.Journal.owners journal.now) (J.Journal.limit journal.now) number (J.Journal.lists journal.now number) cabinet.now (length list.old)) }
-    ensures rest { drop (filled (roster_answer (codes_of K.OrderKind.decode) cabinets (J.Journal.owners journal.now) (J.Journal.limit journal.now) number (J.Journal.lists journal.now number) cabinet.now (length list.old))) list.new ≡ drop (filled (roster_answer (codes_of K.OrderKind.decode) cabinets (J.Journal.owners journal.now) (J.Journal.limit journal.now) number (J.Journal.lists journal.now number) cabinet.now (length list.old))) list.old }
+    ensures answer { result ≡ roster_answer (codes_of K.decode) cabinets (J.owners journal.now) (J.limit journal.now) number (J.lists journal.now number) cabinet.now (length list.old) }
+    ensures front { Enrolled (committed_members (J.lists journal.now number) cabinet.now) list.new (roster_answer (codes_of K.decode) cabinets (J.owners journal.now) (J.limit journal.now) number (J.lists journal.now number) cabinet.now (length list.old)) }
+    ensures rest { drop (filled (roster_answer (codes_of K.decode) cabinets (J.owners journal.now) (J.limit journal.now) number (J.lists journal.now number) cabinet.now (length list.old))) list.new ≡ drop (filled (roster_answer (codes_of K.decode) cabinets (J.owners journal.now) (J.limit journal.now) number (J.lists journal.now number) cabinet.now (length list.old))) list.old }
 {
     check::<K, J>(cabinets, number, cabinet, journal)?;
     let members = members_before(journal, number as u16, cabinet.mark)?;

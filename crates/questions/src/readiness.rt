@@ -15,7 +15,7 @@ pub(crate) fn check<K: OrderKind, J: Journal>(
     cabinet: &Cabinet,
     journal: &J,
 ) -> Result<(), Refusal>
-    ensures { result ≡ asked (codes_of K.OrderKind.decode) cabinets (J.Journal.owners journal.now) (J.Journal.limit journal.now) number (J.Journal.lists journal.now number) cabinet.now }
+    ensures { result ≡ asked (codes_of K.decode) cabinets (J.owners journal.now) (J.limit journal.now) number (J.lists journal.now number) cabinet.now }
 {
     check_place(cabinets, journal.owners(), number)?;
     check_ready::<K, J>(cabinets, number, cabinet, journal)

@@ -40,11 +40,11 @@ fn take<J: Journal, R: QuorumRule>(
     rule: &R,
     frame: &Frame<'_>,
 ) -> Result<Reply, Refusal>
-    ensures answer { result ≡ said_by (listed (J.Journal.owners journal.old) (J.Journal.lists journal.old) number cabinet.old (content_step (R.QuorumRule.quorum rule.now) (J.Journal.limit journal.old) number (J.Journal.lists journal.old number) cabinet.old frame.now.sender frame.now.epoch (said frame.now.message))) }
-    ensures record { cabinet.new ≡ left_by cabinet.old (listed (J.Journal.owners journal.old) (J.Journal.lists journal.old) number cabinet.old (content_step (R.QuorumRule.quorum rule.now) (J.Journal.limit journal.old) number (J.Journal.lists journal.old number) cabinet.old frame.now.sender frame.now.epoch (said frame.now.message))) }
-    ensures lists { (p : ℕ) → J.Journal.lists journal.new p ≡ lists_by (J.Journal.lists journal.old) number (listed (J.Journal.owners journal.old) (J.Journal.lists journal.old) number cabinet.old (content_step (R.QuorumRule.quorum rule.now) (J.Journal.limit journal.old) number (J.Journal.lists journal.old number) cabinet.old frame.now.sender frame.now.epoch (said frame.now.message))) p }
-    ensures owners { J.Journal.owners journal.new ≡ J.Journal.owners journal.old }
-    ensures limit { J.Journal.limit journal.new ≡ J.Journal.limit journal.old }
+    ensures answer { result ≡ said_by (listed (J.owners journal.old) (J.lists journal.old) number cabinet.old (content_step (R.quorum rule.now) (J.limit journal.old) number (J.lists journal.old number) cabinet.old frame.now.sender frame.now.epoch (said frame.now.message))) }
+    ensures record { cabinet.new ≡ left_by cabinet.old (listed (J.owners journal.old) (J.lists journal.old) number cabinet.old (content_step (R.quorum rule.now) (J.limit journal.old) number (J.lists journal.old number) cabinet.old frame.now.sender frame.now.epoch (said frame.now.message))) }
+    ensures J.lists { (p : ℕ) → J.lists journal.new p ≡ lists_by (J.lists journal.old) number (listed (J.owners journal.old) (J.lists journal.old) number cabinet.old (content_step (R.quorum rule.now) (J.limit journal.old) number (J.lists journal.old number) cabinet.old frame.now.sender frame.now.epoch (said frame.now.message))) p }
+    ensures J.owners { J.owners journal.new ≡ J.owners journal.old }
+    ensures J.limit { J.limit journal.new ≡ J.limit journal.old }
 {
     let epoch = frame.epoch;
     match frame.message {
@@ -80,11 +80,11 @@ fn react<J: Journal, R: QuorumRule>(
     rule: &R,
     frame: &Frame<'_>,
 ) -> Result<Reply, Refusal>
-    ensures answer { result ≡ said_by (listed (J.Journal.owners journal.old) (J.Journal.lists journal.old) number cabinet.old (react (R.QuorumRule.quorum rule.now) (J.Journal.limit journal.old) number (J.Journal.lists journal.old number) cabinet.old (letter frame.now))) }
-    ensures record { cabinet.new ≡ left_by cabinet.old (listed (J.Journal.owners journal.old) (J.Journal.lists journal.old) number cabinet.old (react (R.QuorumRule.quorum rule.now) (J.Journal.limit journal.old) number (J.Journal.lists journal.old number) cabinet.old (letter frame.now))) }
-    ensures lists { (p : ℕ) → J.Journal.lists journal.new p ≡ lists_by (J.Journal.lists journal.old) number (listed (J.Journal.owners journal.old) (J.Journal.lists journal.old) number cabinet.old (react (R.QuorumRule.quorum rule.now) (J.Journal.limit journal.old) number (J.Journal.lists journal.old number) cabinet.old (letter frame.now))) p }
-    ensures owners { J.Journal.owners journal.new ≡ J.Journal.owners journal.old }
-    ensures limit { J.Journal.limit journal.new ≡ J.Journal.limit journal.old }
+    ensures answer { result ≡ said_by (listed (J.owners journal.old) (J.lists journal.old) number cabinet.old (react (R.quorum rule.now) (J.limit journal.old) number (J.lists journal.old number) cabinet.old (letter frame.now))) }
+    ensures record { cabinet.new ≡ left_by cabinet.old (listed (J.owners journal.old) (J.lists journal.old) number cabinet.old (react (R.quorum rule.now) (J.limit journal.old) number (J.lists journal.old number) cabinet.old (letter frame.now))) }
+    ensures J.lists { (p : ℕ) → J.lists journal.new p ≡ lists_by (J.lists journal.old) number (listed (J.owners journal.old) (J.lists journal.old) number cabinet.old (react (R.quorum rule.now) (J.limit journal.old) number (J.lists journal.old number) cabinet.old (letter frame.now))) p }
+    ensures J.owners { J.owners journal.new ≡ J.owners journal.old }
+    ensures J.limit { J.limit journal.new ≡ J.limit journal.old }
 {
     cabinet.list_length(number, journal)?;
     check_letter(cabinet, number, frame)?;
@@ -100,11 +100,11 @@ pub fn hear<K: OrderKind, J: Journal, R: QuorumRule>(
     rule: &R,
     bytes: &[u8],
 ) -> Result<Reply, Refusal>
-    ensures answer { result ≡ said_by (listed (J.Journal.owners journal.old) (J.Journal.lists journal.old) number cabinet.old (hear_step (codes_of K.OrderKind.decode) (R.QuorumRule.quorum rule.now) cabinets (J.Journal.limit journal.old) number (J.Journal.lists journal.old number) cabinet.old bytes.now)) }
-    ensures record { cabinet.new ≡ left_by cabinet.old (listed (J.Journal.owners journal.old) (J.Journal.lists journal.old) number cabinet.old (hear_step (codes_of K.OrderKind.decode) (R.QuorumRule.quorum rule.now) cabinets (J.Journal.limit journal.old) number (J.Journal.lists journal.old number) cabinet.old bytes.now)) }
-    ensures lists { (p : ℕ) → J.Journal.lists journal.new p ≡ lists_by (J.Journal.lists journal.old) number (listed (J.Journal.owners journal.old) (J.Journal.lists journal.old) number cabinet.old (hear_step (codes_of K.OrderKind.decode) (R.QuorumRule.quorum rule.now) cabinets (J.Journal.limit journal.old) number (J.Journal.lists journal.old number) cabinet.old bytes.now)) p }
-    ensures owners { J.Journal.owners journal.new ≡ J.Journal.owners journal.old }
-    ensures limit { J.Journal.limit journal.new ≡ J.Journal.limit journal.old }
+    ensures answer { result ≡ said_by (listed (J.owners journal.old) (J.lists journal.old) number cabinet.old (hear_step (codes_of K.decode) (R.quorum rule.now) cabinets (J.limit journal.old) number (J.lists journal.old number) cabinet.old bytes.now)) }
+    ensures record { cabinet.new ≡ left_by cabinet.old (listed (J.owners journal.old) (J.lists journal.old) number cabinet.old (hear_step (codes_of K.decode) (R.quorum rule.now) cabinets (J.limit journal.old) number (J.lists journal.old number) cabinet.old bytes.now)) }
+    ensures J.lists { (p : ℕ) → J.lists journal.new p ≡ lists_by (J.lists journal.old) number (listed (J.owners journal.old) (J.lists journal.old) number cabinet.old (hear_step (codes_of K.decode) (R.quorum rule.now) cabinets (J.limit journal.old) number (J.lists journal.old number) cabinet.old bytes.now)) p }
+    ensures J.owners { J.owners journal.new ≡ J.owners journal.old }
+    ensures J.limit { J.limit journal.new ≡ J.limit journal.old }
 {
     cabinet.list_length(number, journal)?;
     let frame = read::<K>(cabinets, journal.limit(), bytes)?;

@@ -30,7 +30,7 @@ fn is_sound<K: OrderKind, J: Journal>(
     cabinet: &Cabinet,
     journal: &J,
 ) -> Result<bool, Refusal>
-    ensures { result ≡ owned (J.Journal.owners journal.now) number (Ok (sound (codes_of K.OrderKind.decode) cabinets (J.Journal.limit journal.now) number (J.Journal.lists journal.now number) cabinet.now)) }
+    ensures { result ≡ owned (J.owners journal.now) number (Ok (sound (codes_of K.decode) cabinets (J.limit journal.now) number (J.lists journal.now number) cabinet.now)) }
 {
     let owner = number as u16;
     let length = journal.length(owner)?;
@@ -45,7 +45,7 @@ pub fn check_ready<K: OrderKind, J: Journal>(
     cabinet: &Cabinet,
     journal: &J,
 ) -> Result<(), Refusal>
-    ensures { result ≡ owned (J.Journal.owners journal.now) number (ready (codes_of K.OrderKind.decode) cabinets (J.Journal.limit journal.now) number (J.Journal.lists journal.now number) cabinet.now) }
+    ensures { result ≡ owned (J.owners journal.now) number (ready (codes_of K.decode) cabinets (J.limit journal.now) number (J.lists journal.now number) cabinet.now) }
 {
     if number as u16 >= journal.owners() {
         return Err(Refusal::NoCabinet);

@@ -8,14 +8,14 @@ use orders::OrderKind;
 
 // A message written as a frame reads back as itself.
 pub fn reads_back<K: OrderKind>() -> u8
-    ensures { ReadsBack (codes_of decode) }
+    ensures { ReadsBack (codes_of K.decode) }
 {
     0
 }
 
 // An accepted frame, written again, gives its own bytes.
 pub fn writes_back<K: OrderKind>() -> u8
-    ensures { WritesBack (codes_of decode) }
+    ensures { WritesBack (codes_of K.decode) }
 {
     0
 }

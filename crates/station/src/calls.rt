@@ -21,12 +21,12 @@ pub fn stand<K: OrderKind, J: Journal, R: QuorumRule>(
     cabinet: u8,
     tray: u8,
 ) -> Result<(u8, u16), Refusal>
-    ensures answer { result ≡ answer_by cabinet (stand_call (codes_of K.OrderKind.decode) (R.QuorumRule.quorum rule.now) (station table.old (J.Journal.owners journal.old) (J.Journal.limit journal.old) (J.Journal.lists journal.old) trays.old) cabinet tray) }
-    ensures table { table.new ≡ (station_after (station table.old (J.Journal.owners journal.old) (J.Journal.limit journal.old) (J.Journal.lists journal.old) trays.old) cabinet tray (stand_call (codes_of K.OrderKind.decode) (R.QuorumRule.quorum rule.now) (station table.old (J.Journal.owners journal.old) (J.Journal.limit journal.old) (J.Journal.lists journal.old) trays.old) cabinet tray)).table }
-    ensures lists { (p : ℕ) → J.Journal.lists journal.new p ≡ (station_after (station table.old (J.Journal.owners journal.old) (J.Journal.limit journal.old) (J.Journal.lists journal.old) trays.old) cabinet tray (stand_call (codes_of K.OrderKind.decode) (R.QuorumRule.quorum rule.now) (station table.old (J.Journal.owners journal.old) (J.Journal.limit journal.old) (J.Journal.lists journal.old) trays.old) cabinet tray)).lists p }
-    ensures owners { J.Journal.owners journal.new ≡ J.Journal.owners journal.old }
-    ensures limit { J.Journal.limit journal.new ≡ J.Journal.limit journal.old }
-    ensures trays { trays.new ≡ (station_after (station table.old (J.Journal.owners journal.old) (J.Journal.limit journal.old) (J.Journal.lists journal.old) trays.old) cabinet tray (stand_call (codes_of K.OrderKind.decode) (R.QuorumRule.quorum rule.now) (station table.old (J.Journal.owners journal.old) (J.Journal.limit journal.old) (J.Journal.lists journal.old) trays.old) cabinet tray)).trays }
+    ensures answer { result ≡ answer_by cabinet (stand_call (codes_of K.decode) (R.quorum rule.now) (station table.old (J.owners journal.old) (J.limit journal.old) (J.lists journal.old) trays.old) cabinet tray) }
+    ensures table { table.new ≡ (station_after (station table.old (J.owners journal.old) (J.limit journal.old) (J.lists journal.old) trays.old) cabinet tray (stand_call (codes_of K.decode) (R.quorum rule.now) (station table.old (J.owners journal.old) (J.limit journal.old) (J.lists journal.old) trays.old) cabinet tray)).table }
+    ensures J.lists { (p : ℕ) → J.lists journal.new p ≡ (station_after (station table.old (J.owners journal.old) (J.limit journal.old) (J.lists journal.old) trays.old) cabinet tray (stand_call (codes_of K.decode) (R.quorum rule.now) (station table.old (J.owners journal.old) (J.limit journal.old) (J.lists journal.old) trays.old) cabinet tray)).lists p }
+    ensures J.owners { J.owners journal.new ≡ J.owners journal.old }
+    ensures J.limit { J.limit journal.new ≡ J.limit journal.old }
+    ensures trays { trays.new ≡ (station_after (station table.old (J.owners journal.old) (J.limit journal.old) (J.lists journal.old) trays.old) cabinet tray (stand_call (codes_of K.decode) (R.quorum rule.now) (station table.old (J.owners journal.old) (J.limit journal.old) (J.lists journal.old) trays.old) cabinet tray)).trays }
 {
     let act = Act::Stand;
     perform::<K, J, R>(table, journal, trays, rule, cabinet, tray, &act)
@@ -42,12 +42,12 @@ pub fn submit<K: OrderKind, J: Journal, R: QuorumRule>(
     order: K,
     tray: u8,
 ) -> Result<(u8, u16), Refusal>
-    ensures answer { result ≡ answer_by cabinet (submit_call (kind_of K.OrderKind.proper K.OrderKind.encode K.OrderKind.decode) (R.QuorumRule.quorum rule.now) (station table.old (J.Journal.owners journal.old) (J.Journal.limit journal.old) (J.Journal.lists journal.old) trays.old) cabinet order tray) }
-    ensures table { table.new ≡ (station_after (station table.old (J.Journal.owners journal.old) (J.Journal.limit journal.old) (J.Journal.lists journal.old) trays.old) cabinet tray (submit_call (kind_of K.OrderKind.proper K.OrderKind.encode K.OrderKind.decode) (R.QuorumRule.quorum rule.now) (station table.old (J.Journal.owners journal.old) (J.Journal.limit journal.old) (J.Journal.lists journal.old) trays.old) cabinet order tray)).table }
-    ensures lists { (p : ℕ) → J.Journal.lists journal.new p ≡ (station_after (station table.old (J.Journal.owners journal.old) (J.Journal.limit journal.old) (J.Journal.lists journal.old) trays.old) cabinet tray (submit_call (kind_of K.OrderKind.proper K.OrderKind.encode K.OrderKind.decode) (R.QuorumRule.quorum rule.now) (station table.old (J.Journal.owners journal.old) (J.Journal.limit journal.old) (J.Journal.lists journal.old) trays.old) cabinet order tray)).lists p }
-    ensures owners { J.Journal.owners journal.new ≡ J.Journal.owners journal.old }
-    ensures limit { J.Journal.limit journal.new ≡ J.Journal.limit journal.old }
-    ensures trays { trays.new ≡ (station_after (station table.old (J.Journal.owners journal.old) (J.Journal.limit journal.old) (J.Journal.lists journal.old) trays.old) cabinet tray (submit_call (kind_of K.OrderKind.proper K.OrderKind.encode K.OrderKind.decode) (R.QuorumRule.quorum rule.now) (station table.old (J.Journal.owners journal.old) (J.Journal.limit journal.old) (J.Journal.lists journal.old) trays.old) cabinet order tray)).trays }
+    ensures answer { result ≡ answer_by cabinet (submit_call (kind_of K.proper K.encode K.decode) (R.quorum rule.now) (station table.old (J.owners journal.old) (J.limit journal.old) (J.lists journal.old) trays.old) cabinet order tray) }
+    ensures table { table.new ≡ (station_after (station table.old (J.owners journal.old) (J.limit journal.old) (J.lists journal.old) trays.old) cabinet tray (submit_call (kind_of K.proper K.encode K.decode) (R.quorum rule.now) (station table.old (J.owners journal.old) (J.limit journal.old) (J.lists journal.old) trays.old) cabinet order tray)).table }
+    ensures J.lists { (p : ℕ) → J.lists journal.new p ≡ (station_after (station table.old (J.owners journal.old) (J.limit journal.old) (J.lists journal.old) trays.old) cabinet tray (submit_call (kind_of K.proper K.encode K.decode) (R.quorum rule.now) (station table.old (J.owners journal.old) (J.limit journal.old) (J.lists journal.old) trays.old) cabinet order tray)).lists p }
+    ensures J.owners { J.owners journal.new ≡ J.owners journal.old }
+    ensures J.limit { J.limit journal.new ≡ J.limit journal.old }
+    ensures trays { trays.new ≡ (station_after (station table.old (J.owners journal.old) (J.limit journal.old) (J.lists journal.old) trays.old) cabinet tray (submit_call (kind_of K.proper K.encode K.decode) (R.quorum rule.now) (station table.old (J.owners journal.old) (J.limit journal.old) (J.lists journal.old) trays.old) cabinet order tray)).trays }
 {
     let act = Act::Submit(order);
     perform::<K, J, R>(table, journal, trays, rule, cabinet, tray, &act)
@@ -64,12 +64,12 @@ pub fn change<K: OrderKind, J: Journal, R: QuorumRule>(
     members: u16,
     tray: u8,
 ) -> Result<(u8, u16), Refusal>
-    ensures answer { result ≡ answer_by cabinet (change_call (codes_of K.OrderKind.decode) (R.QuorumRule.quorum rule.now) (station table.old (J.Journal.owners journal.old) (J.Journal.limit journal.old) (J.Journal.lists journal.old) trays.old) cabinet version members tray) }
-    ensures table { table.new ≡ (station_after (station table.old (J.Journal.owners journal.old) (J.Journal.limit journal.old) (J.Journal.lists journal.old) trays.old) cabinet tray (change_call (codes_of K.OrderKind.decode) (R.QuorumRule.quorum rule.now) (station table.old (J.Journal.owners journal.old) (J.Journal.limit journal.old) (J.Journal.lists journal.old) trays.old) cabinet version members tray)).table }
-    ensures lists { (p : ℕ) → J.Journal.lists journal.new p ≡ (station_after (station table.old (J.Journal.owners journal.old) (J.Journal.limit journal.old) (J.Journal.lists journal.old) trays.old) cabinet tray (change_call (codes_of K.OrderKind.decode) (R.QuorumRule.quorum rule.now) (station table.old (J.Journal.owners journal.old) (J.Journal.limit journal.old) (J.Journal.lists journal.old) trays.old) cabinet version members tray)).lists p }
-    ensures owners { J.Journal.owners journal.new ≡ J.Journal.owners journal.old }
-    ensures limit { J.Journal.limit journal.new ≡ J.Journal.limit journal.old }
-    ensures trays { trays.new ≡ (station_after (station table.old (J.Journal.owners journal.old) (J.Journal.limit journal.old) (J.Journal.lists journal.old) trays.old) cabinet tray (change_call (codes_of K.OrderKind.decode) (R.QuorumRule.quorum rule.now) (station table.old (J.Journal.owners journal.old) (J.Journal.limit journal.old) (J.Journal.lists journal.old) trays.old) cabinet version members tray)).trays }
+    ensures answer { result ≡ answer_by cabinet (change_call (codes_of K.decode) (R.quorum rule.now) (station table.old (J.owners journal.old) (J.limit journal.old) (J.lists journal.old) trays.old) cabinet version members tray) }
+    ensures table { table.new ≡ (station_after (station table.old (J.owners journal.old) (J.limit journal.old) (J.lists journal.old) trays.old) cabinet tray (change_call (codes_of K.decode) (R.quorum rule.now) (station table.old (J.owners journal.old) (J.limit journal.old) (J.lists journal.old) trays.old) cabinet version members tray)).table }
+    ensures J.lists { (p : ℕ) → J.lists journal.new p ≡ (station_after (station table.old (J.owners journal.old) (J.limit journal.old) (J.lists journal.old) trays.old) cabinet tray (change_call (codes_of K.decode) (R.quorum rule.now) (station table.old (J.owners journal.old) (J.limit journal.old) (J.lists journal.old) trays.old) cabinet version members tray)).lists p }
+    ensures J.owners { J.owners journal.new ≡ J.owners journal.old }
+    ensures J.limit { J.limit journal.new ≡ J.limit journal.old }
+    ensures trays { trays.new ≡ (station_after (station table.old (J.owners journal.old) (J.limit journal.old) (J.lists journal.old) trays.old) cabinet tray (change_call (codes_of K.decode) (R.quorum rule.now) (station table.old (J.owners journal.old) (J.limit journal.old) (J.lists journal.old) trays.old) cabinet version members tray)).trays }
 {
     let act = Act::Change { version, members };
     perform::<K, J, R>(table, journal, trays, rule, cabinet, tray, &act)
@@ -84,12 +84,12 @@ pub fn refresh<K: OrderKind, J: Journal, R: QuorumRule>(
     cabinet: u8,
     tray: u8,
 ) -> Result<(u8, u16), Refusal>
-    ensures answer { result ≡ answer_by cabinet (refresh_call (codes_of K.OrderKind.decode) (station table.old (J.Journal.owners journal.old) (J.Journal.limit journal.old) (J.Journal.lists journal.old) trays.old) cabinet tray) }
-    ensures table { table.new ≡ (station_after (station table.old (J.Journal.owners journal.old) (J.Journal.limit journal.old) (J.Journal.lists journal.old) trays.old) cabinet tray (refresh_call (codes_of K.OrderKind.decode) (station table.old (J.Journal.owners journal.old) (J.Journal.limit journal.old) (J.Journal.lists journal.old) trays.old) cabinet tray)).table }
-    ensures lists { (p : ℕ) → J.Journal.lists journal.new p ≡ (station_after (station table.old (J.Journal.owners journal.old) (J.Journal.limit journal.old) (J.Journal.lists journal.old) trays.old) cabinet tray (refresh_call (codes_of K.OrderKind.decode) (station table.old (J.Journal.owners journal.old) (J.Journal.limit journal.old) (J.Journal.lists journal.old) trays.old) cabinet tray)).lists p }
-    ensures owners { J.Journal.owners journal.new ≡ J.Journal.owners journal.old }
-    ensures limit { J.Journal.limit journal.new ≡ J.Journal.limit journal.old }
-    ensures trays { trays.new ≡ (station_after (station table.old (J.Journal.owners journal.old) (J.Journal.limit journal.old) (J.Journal.lists journal.old) trays.old) cabinet tray (refresh_call (codes_of K.OrderKind.decode) (station table.old (J.Journal.owners journal.old) (J.Journal.limit journal.old) (J.Journal.lists journal.old) trays.old) cabinet tray)).trays }
+    ensures answer { result ≡ answer_by cabinet (refresh_call (codes_of K.decode) (station table.old (J.owners journal.old) (J.limit journal.old) (J.lists journal.old) trays.old) cabinet tray) }
+    ensures table { table.new ≡ (station_after (station table.old (J.owners journal.old) (J.limit journal.old) (J.lists journal.old) trays.old) cabinet tray (refresh_call (codes_of K.decode) (station table.old (J.owners journal.old) (J.limit journal.old) (J.lists journal.old) trays.old) cabinet tray)).table }
+    ensures J.lists { (p : ℕ) → J.lists journal.new p ≡ (station_after (station table.old (J.owners journal.old) (J.limit journal.old) (J.lists journal.old) trays.old) cabinet tray (refresh_call (codes_of K.decode) (station table.old (J.owners journal.old) (J.limit journal.old) (J.lists journal.old) trays.old) cabinet tray)).lists p }
+    ensures J.owners { J.owners journal.new ≡ J.owners journal.old }
+    ensures J.limit { J.limit journal.new ≡ J.limit journal.old }
+    ensures trays { trays.new ≡ (station_after (station table.old (J.owners journal.old) (J.limit journal.old) (J.lists journal.old) trays.old) cabinet tray (refresh_call (codes_of K.decode) (station table.old (J.owners journal.old) (J.limit journal.old) (J.lists journal.old) trays.old) cabinet tray)).trays }
 {
     let act = Act::Refresh;
     perform::<K, J, R>(table, journal, trays, rule, cabinet, tray, &act)

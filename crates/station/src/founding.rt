@@ -43,7 +43,7 @@ fn check_found<J: Journal, R: QuorumRule>(
     rule: &R,
     members: u16,
 ) -> Result<(), Refusal>
-    ensures { result ≡ found_answer (R.QuorumRule.quorum rule.now) (station table.now (J.Journal.owners journal.now) (J.Journal.limit journal.now) (J.Journal.lists journal.now) trays.now) members }
+    ensures { result ≡ found_answer (R.quorum rule.now) (station table.now (J.owners journal.now) (J.limit journal.now) (J.lists journal.now) trays.now) members }
 {
     if !is_in_bounds(table, journal, trays) {
         return Err(Refusal::OutOfBounds);
@@ -58,10 +58,10 @@ fn check_found<J: Journal, R: QuorumRule>(
 
 // The owner's list becomes the entry alone.
 fn open_list<J: Journal>(journal: &mut J, owner: u16, entry: Entry) -> Result<(), Refusal>
-    ensures answer { result ≡ owned (owners journal.old) owner (Ok tt) }
-    ensures lists { (p : ℕ) → lists journal.new p ≡ (if nat_lt owner (owners journal.old) then (if nat_eq p owner then entry ∷ [] else lists journal.old p) else lists journal.old p) }
-    ensures owners { owners journal.new ≡ owners journal.old }
-    ensures limit { limit journal.new ≡ limit journal.old }
+    ensures answer { result ≡ owned (J.owners journal.old) owner (Ok tt) }
+    ensures J.lists { (p : ℕ) → J.lists journal.new p ≡ (if nat_lt owner (J.owners journal.old) then (if nat_eq p owner then entry ∷ [] else J.lists journal.old p) else J.lists journal.old p) }
+    ensures J.owners { J.owners journal.new ≡ J.owners journal.old }
+    ensures J.limit { J.limit journal.new ≡ J.limit journal.old }
 {
     journal.keep(owner, 0)?;
     journal.append(owner, entry)
@@ -69,11 +69,11 @@ fn open_list<J: Journal>(journal: &mut J, owner: u16, entry: Entry) -> Result<()
 
 // The lists of the first owners become the entry alone.
 fn open_lists<J: Journal>(journal: &mut J, cabinets: u16, opening: Entry) -> Result<(), Refusal>
-    requires { cabinets ≤ owners journal.old }
+    requires { cabinets ≤ J.owners journal.old }
     ensures answer { result ≡ Ok tt }
-    ensures lists { (p : ℕ) → lists journal.new p ≡ (if nat_lt p cabinets then opening ∷ [] else lists journal.old p) }
-    ensures owners { owners journal.new ≡ owners journal.old }
-    ensures limit { limit journal.new ≡ limit journal.old }
+    ensures J.lists { (p : ℕ) → J.lists journal.new p ≡ (if nat_lt p cabinets then opening ∷ [] else J.lists journal.old p) }
+    ensures J.owners { J.owners journal.new ≡ J.owners journal.old }
+    ensures J.limit { J.limit journal.new ≡ J.limit journal.old }
 {
     for owner in 0..cabinets {
         open_list(journal, owner, opening)?;
@@ -89,12 +89,12 @@ pub fn found<J: Journal, R: QuorumRule>(
     rule: &R,
     members: u16,
 ) -> Result<(u8, u16), Refusal>
-    ensures answer { result ≡ found_reply (found_answer (R.QuorumRule.quorum rule.now) (station table.old (J.Journal.owners journal.old) (J.Journal.limit journal.old) (J.Journal.lists journal.old) trays.old) members) }
-    ensures table { table.new ≡ (station_founded (station table.old (J.Journal.owners journal.old) (J.Journal.limit journal.old) (J.Journal.lists journal.old) trays.old) members (found_answer (R.QuorumRule.quorum rule.now) (station table.old (J.Journal.owners journal.old) (J.Journal.limit journal.old) (J.Journal.lists journal.old) trays.old) members)).table }
-    ensures lists { (p : ℕ) → J.Journal.lists journal.new p ≡ (station_founded (station table.old (J.Journal.owners journal.old) (J.Journal.limit journal.old) (J.Journal.lists journal.old) trays.old) members (found_answer (R.QuorumRule.quorum rule.now) (station table.old (J.Journal.owners journal.old) (J.Journal.limit journal.old) (J.Journal.lists journal.old) trays.old) members)).lists p }
-    ensures owners { J.Journal.owners journal.new ≡ J.Journal.owners journal.old }
-    ensures limit { J.Journal.limit journal.new ≡ J.Journal.limit journal.old }
-    ensures trays { trays.new ≡ (station_founded (station table.old (J.Journal.owners journal.old) (J.Journal.limit journal.old) (J.Journal.lists journal.old) trays.old) members (found_answer (R.QuorumRule.quorum rule.now) (station table.old (J.Journal.owners journal.old) (J.Journal.limit journal.old) (J.Journal.lists journal.old) trays.old) members)).trays }
+    ensures answer { result ≡ found_reply (found_answer (R.quorum rule.now) (station table.old (J.owners journal.old) (J.limit journal.old) (J.lists journal.old) trays.old) members) }
+    ensures table { table.new ≡ (station_founded (station table.old (J.owners journal.old) (J.limit journal.old) (J.lists journal.old) trays.old) members (found_answer (R.quorum rule.now) (station table.old (J.owners journal.old) (J.limit journal.old) (J.lists journal.old) trays.old) members)).table }
+    ensures J.lists { (p : ℕ) → J.lists journal.new p ≡ (station_founded (station table.old (J.owners journal.old) (J.limit journal.old) (J.lists journal.old) trays.old) members (found_answer (R.quorum rule.now) (station table.old (J.owners journal.old) (J.limit journal.old) (J.lists journal.old) trays.old) members)).lists p }
+    ensures J.owners { J.owners journal.new ≡ J.owners journal.old }
+    ensures J.limit { J.limit journal.new ≡ J.limit journal.old }
+    ensures trays { trays.new ≡ (station_founded (station table.old (J.owners journal.old) (J.limit journal.old) (J.lists journal.old) trays.old) members (found_answer (R.quorum rule.now) (station table.old (J.owners journal.old) (J.limit journal.old) (J.lists journal.old) trays.old) members)).trays }
 {
     check_found(table, journal, trays, rule, members)?;
     open_lists(journal, table.len() as u16, founding(members))?;

@@ -24,7 +24,7 @@ fn check_hand<K: OrderKind, J: Journal>(
     cabinet: u8,
     to: u8,
 ) -> Result<(), Refusal>
-    ensures { result ≡ handed (codes_of K.OrderKind.decode) (station table.now (J.Journal.owners journal.now) (J.Journal.limit journal.now) (J.Journal.lists journal.now) trays.now) from cabinet to }
+    ensures { result ≡ handed (codes_of K.decode) (station table.now (J.owners journal.now) (J.limit journal.now) (J.lists journal.now) trays.now) from cabinet to }
 {
     check_named(table, journal, trays, cabinet)?;
     check_tray(table, journal, trays, from)?;
@@ -50,12 +50,12 @@ pub fn hand<K: OrderKind, J: Journal, R: QuorumRule>(
     cabinet: u8,
     to: u8,
 ) -> Result<(u8, u16), Refusal>
-    ensures answer { result ≡ answer_by cabinet (hand_call (codes_of K.OrderKind.decode) (R.QuorumRule.quorum rule.now) (station table.old (J.Journal.owners journal.old) (J.Journal.limit journal.old) (J.Journal.lists journal.old) trays.old) from cabinet to) }
-    ensures table { table.new ≡ (station_after (station table.old (J.Journal.owners journal.old) (J.Journal.limit journal.old) (J.Journal.lists journal.old) trays.old) cabinet to (hand_call (codes_of K.OrderKind.decode) (R.QuorumRule.quorum rule.now) (station table.old (J.Journal.owners journal.old) (J.Journal.limit journal.old) (J.Journal.lists journal.old) trays.old) from cabinet to)).table }
-    ensures lists { (p : ℕ) → J.Journal.lists journal.new p ≡ (station_after (station table.old (J.Journal.owners journal.old) (J.Journal.limit journal.old) (J.Journal.lists journal.old) trays.old) cabinet to (hand_call (codes_of K.OrderKind.decode) (R.QuorumRule.quorum rule.now) (station table.old (J.Journal.owners journal.old) (J.Journal.limit journal.old) (J.Journal.lists journal.old) trays.old) from cabinet to)).lists p }
-    ensures owners { J.Journal.owners journal.new ≡ J.Journal.owners journal.old }
-    ensures limit { J.Journal.limit journal.new ≡ J.Journal.limit journal.old }
-    ensures trays { trays.new ≡ (station_after (station table.old (J.Journal.owners journal.old) (J.Journal.limit journal.old) (J.Journal.lists journal.old) trays.old) cabinet to (hand_call (codes_of K.OrderKind.decode) (R.QuorumRule.quorum rule.now) (station table.old (J.Journal.owners journal.old) (J.Journal.limit journal.old) (J.Journal.lists journal.old) trays.old) from cabinet to)).trays }
+    ensures answer { result ≡ answer_by cabinet (hand_call (codes_of K.decode) (R.quorum rule.now) (station table.old (J.owners journal.old) (J.limit journal.old) (J.lists journal.old) trays.old) from cabinet to) }
+    ensures table { table.new ≡ (station_after (station table.old (J.owners journal.old) (J.limit journal.old) (J.lists journal.old) trays.old) cabinet to (hand_call (codes_of K.decode) (R.quorum rule.now) (station table.old (J.owners journal.old) (J.limit journal.old) (J.lists journal.old) trays.old) from cabinet to)).table }
+    ensures J.lists { (p : ℕ) → J.lists journal.new p ≡ (station_after (station table.old (J.owners journal.old) (J.limit journal.old) (J.lists journal.old) trays.old) cabinet to (hand_call (codes_of K.decode) (R.quorum rule.now) (station table.old (J.owners journal.old) (J.limit journal.old) (J.lists journal.old) trays.old) from cabinet to)).lists p }
+    ensures J.owners { J.owners journal.new ≡ J.owners journal.old }
+    ensures J.limit { J.limit journal.new ≡ J.limit journal.old }
+    ensures trays { trays.new ≡ (station_after (station table.old (J.owners journal.old) (J.limit journal.old) (J.lists journal.old) trays.old) cabinet to (hand_call (codes_of K.decode) (R.quorum rule.now) (station table.old (J.owners journal.old) (J.limit journal.old) (J.lists journal.old) trays.old) from cabinet to)).trays }
 {
     check_hand::<K, J>(table, journal, trays, from, cabinet, to)?;
     let cabinets = table.len() as u8;

@@ -15,8 +15,8 @@ pub fn stop<J: Journal>(
     trays: &[u8],
     cabinet: u8,
 ) -> Result<(u8, u16), Refusal>
-    ensures answer { result ≡ answer_by cabinet (stop_call (station table.old (owners journal.now) (limit journal.now) (lists journal.now) trays.now) cabinet) }
-    ensures table { table.new ≡ (station_after (station table.old (owners journal.now) (limit journal.now) (lists journal.now) trays.now) cabinet 0 (stop_call (station table.old (owners journal.now) (limit journal.now) (lists journal.now) trays.now) cabinet)).table }
+    ensures answer { result ≡ answer_by cabinet (stop_call (station table.old (J.owners journal.now) (J.limit journal.now) (J.lists journal.now) trays.now) cabinet) }
+    ensures table { table.new ≡ (station_after (station table.old (J.owners journal.now) (J.limit journal.now) (J.lists journal.now) trays.now) cabinet 0 (stop_call (station table.old (J.owners journal.now) (J.limit journal.now) (J.lists journal.now) trays.now) cabinet)).table }
 {
     check_named(table, journal, trays, cabinet)?;
     table[cabinet as usize].stop()?;
@@ -30,8 +30,8 @@ pub fn start<J: Journal>(
     trays: &[u8],
     cabinet: u8,
 ) -> Result<(u8, u16), Refusal>
-    ensures answer { result ≡ answer_by cabinet (start_call (station table.old (owners journal.now) (limit journal.now) (lists journal.now) trays.now) cabinet) }
-    ensures table { table.new ≡ (station_after (station table.old (owners journal.now) (limit journal.now) (lists journal.now) trays.now) cabinet 0 (start_call (station table.old (owners journal.now) (limit journal.now) (lists journal.now) trays.now) cabinet)).table }
+    ensures answer { result ≡ answer_by cabinet (start_call (station table.old (J.owners journal.now) (J.limit journal.now) (J.lists journal.now) trays.now) cabinet) }
+    ensures table { table.new ≡ (station_after (station table.old (J.owners journal.now) (J.limit journal.now) (J.lists journal.now) trays.now) cabinet 0 (start_call (station table.old (J.owners journal.now) (J.limit journal.now) (J.lists journal.now) trays.now) cabinet)).table }
 {
     check_named(table, journal, trays, cabinet)?;
     table[cabinet as usize].start()?;

@@ -18,9 +18,9 @@ pub(crate) fn say<J: Journal>(
     tray: u8,
     reply: Reply,
 ) -> Result<(u8, u16), Refusal>
-    requires { tray * tray_length (limit journal.now) + tray_length (limit journal.now) ≤ length trays.old }
-    ensures answer { result ≡ and_then (said_answer (owners journal.now) number promised (lists journal.now number) reply (tray_length (limit journal.now)) tray trays.old) (λ n. Ok (0, n)) }
-    ensures trays { trays.new ≡ said_trays (owners journal.now) number promised (lists journal.now number) reply (tray_length (limit journal.now)) tray trays.old }
+    requires { tray * tray_length (J.limit journal.now) + tray_length (J.limit journal.now) ≤ length trays.old }
+    ensures answer { result ≡ and_then (said_answer (J.owners journal.now) number promised (J.lists journal.now number) reply (tray_length (J.limit journal.now)) tray trays.old) (λ n. Ok (0, n)) }
+    ensures trays { trays.new ≡ said_trays (J.owners journal.now) number promised (J.lists journal.now number) reply (tray_length (J.limit journal.now)) tray trays.old }
 {
     let size = tray_length(journal.limit());
     let at = tray as usize * size;

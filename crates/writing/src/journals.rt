@@ -16,10 +16,10 @@ use refusal::Refusal;
 
 // The owner's entries, right behind a header's place.
 fn put_list<J: Journal>(journal: &J, owner: u16, out: &mut [u8]) -> Result<(), Refusal>
-    requires owner { owner < owners journal.now }
-    requires room { frame_length (length (lists journal.now owner)) ≤ length out.old }
+    requires owner { owner < J.owners journal.now }
+    requires room { frame_length (length (J.lists journal.now owner)) ≤ length out.old }
     ensures answer { result ≡ Ok tt }
-    ensures buffer { out.new ≡ over out.old 24 (entries_bytes (lists journal.now owner)) }
+    ensures buffer { out.new ≡ over out.old 24 (entries_bytes (J.lists journal.now owner)) }
 {
     let count = journal.length(owner)?;
     for k in 0..count {
@@ -39,7 +39,7 @@ fn check_history<K: OrderKind, J: Journal>(
     owner: u16,
     room: usize,
 ) -> Result<Fields, Refusal>
-    ensures { result ≡ and_then (history_answer (codes_of K.OrderKind.decode) cabinets (J.Journal.limit journal.now) (J.Journal.owners journal.now) owner room (history_of sender epoch mark (J.Journal.lists journal.now owner))) (λ _. Ok (fields_of (history_of sender epoch mark (J.Journal.lists journal.now owner)))) }
+    ensures { result ≡ and_then (history_answer (codes_of K.decode) cabinets (J.limit journal.now) (J.owners journal.now) owner room (history_of sender epoch mark (J.lists journal.now owner))) (λ _. Ok (fields_of (history_of sender epoch mark (J.lists journal.now owner)))) }
 {
     let limit = journal.limit();
     check_bounds(cabinets, limit)?;
@@ -67,12 +67,12 @@ pub(crate) fn put_history<J: Journal>(
     owner: u16,
     out: &mut [u8],
 ) -> Result<u16, Refusal>
-    requires owner { owner < owners journal.now }
-    requires count { fields.now.count ≡ length (lists journal.now owner) }
+    requires owner { owner < J.owners journal.now }
+    requires count { fields.now.count ≡ length (J.lists journal.now owner) }
     requires small { fields.now.count ≤ 4000 }
     requires room { frame_length fields.now.count ≤ length out.old }
     ensures answer { result ≡ Ok (frame_length fields.now.count) }
-    ensures buffer { out.new ≡ (header_bytes fields.now ++ entries_bytes (lists journal.now owner)) ++ replicate (length out.old - frame_length fields.now.count) 0 }
+    ensures buffer { out.new ≡ (header_bytes fields.now ++ entries_bytes (J.lists journal.now owner)) ++ replicate (length out.old - frame_length fields.now.count) 0 }
 {
     let end = 24 + 16 * fields.count;
     put(out, 0, &header_bytes(fields));
@@ -92,8 +92,8 @@ pub fn write_history<K: OrderKind, J: Journal>(
     owner: u16,
     out: &mut [u8],
 ) -> Result<u16, Refusal>
-    ensures answer { result ≡ history_answer (codes_of K.OrderKind.decode) cabinets (J.Journal.limit journal.now) (J.Journal.owners journal.now) owner (length out.old) (history_of sender epoch mark (J.Journal.lists journal.now owner)) }
-    ensures buffer { out.new ≡ written out.old (history_of sender epoch mark (J.Journal.lists journal.now owner)) (history_answer (codes_of K.OrderKind.decode) cabinets (J.Journal.limit journal.now) (J.Journal.owners journal.now) owner (length out.old) (history_of sender epoch mark (J.Journal.lists journal.now owner))) }
+    ensures answer { result ≡ history_answer (codes_of K.decode) cabinets (J.limit journal.now) (J.owners journal.now) owner (length out.old) (history_of sender epoch mark (J.lists journal.now owner)) }
+    ensures buffer { out.new ≡ written out.old (history_of sender epoch mark (J.lists journal.now owner)) (history_answer (codes_of K.decode) cabinets (J.limit journal.now) (J.owners journal.now) owner (length out.old) (history_of sender epoch mark (J.lists journal.now owner))) }
 {
     let fields = check_history::<K, J>(cabinets, sender, epoch, mark, journal, owner, out.len())?;
     put_history(&fields, journal, owner, out)

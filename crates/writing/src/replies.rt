@@ -36,8 +36,8 @@ fn write_list<J: Journal>(
     owner: u16,
     out: &mut [u8],
 ) -> Result<u16, Refusal>
-    ensures answer { result ≡ reply_answer (owners journal.now) owner (length out.old) sender epoch (lists journal.now owner) (HistoryReply mark) }
-    ensures buffer { out.new ≡ filled_by out.old (spoken_into out.old (letter_said sender epoch (lists journal.now owner) (HistoryReply mark))) (reply_answer (owners journal.now) owner (length out.old) sender epoch (lists journal.now owner) (HistoryReply mark)) }
+    ensures answer { result ≡ reply_answer (J.owners journal.now) owner (length out.old) sender epoch (J.lists journal.now owner) (HistoryReply mark) }
+    ensures buffer { out.new ≡ filled_by out.old (spoken_into out.old (letter_said sender epoch (J.lists journal.now owner) (HistoryReply mark))) (reply_answer (J.owners journal.now) owner (length out.old) sender epoch (J.lists journal.now owner) (HistoryReply mark)) }
 {
     let count = journal.length(owner)? as usize;
     let fields = Fields {
@@ -62,8 +62,8 @@ fn write_entry<J: Journal>(
     owner: u16,
     out: &mut [u8],
 ) -> Result<u16, Refusal>
-    ensures answer { result ≡ reply_answer (owners journal.now) owner (length out.old) sender epoch (lists journal.now owner) (EntryReply position mark) }
-    ensures buffer { out.new ≡ filled_by out.old (spoken_into out.old (letter_said sender epoch (lists journal.now owner) (EntryReply position mark))) (reply_answer (owners journal.now) owner (length out.old) sender epoch (lists journal.now owner) (EntryReply position mark)) }
+    ensures answer { result ≡ reply_answer (J.owners journal.now) owner (length out.old) sender epoch (J.lists journal.now owner) (EntryReply position mark) }
+    ensures buffer { out.new ≡ filled_by out.old (spoken_into out.old (letter_said sender epoch (J.lists journal.now owner) (EntryReply position mark))) (reply_answer (J.owners journal.now) owner (length out.old) sender epoch (J.lists journal.now owner) (EntryReply position mark)) }
 {
     let entry = journal.entry(owner, position)?;
     let fields = Fields {
@@ -111,8 +111,8 @@ pub fn write_reply<J: Journal>(
     owner: u16,
     out: &mut [u8],
 ) -> Result<u16, Refusal>
-    ensures answer { result ≡ reply_answer (owners journal.now) owner (length out.old) sender epoch (lists journal.now owner) reply }
-    ensures buffer { out.new ≡ filled_by out.old (spoken_into out.old (letter_said sender epoch (lists journal.now owner) reply)) (reply_answer (owners journal.now) owner (length out.old) sender epoch (lists journal.now owner) reply) }
+    ensures answer { result ≡ reply_answer (J.owners journal.now) owner (length out.old) sender epoch (J.lists journal.now owner) reply }
+    ensures buffer { out.new ≡ filled_by out.old (spoken_into out.old (letter_said sender epoch (J.lists journal.now owner) reply)) (reply_answer (J.owners journal.now) owner (length out.old) sender epoch (J.lists journal.now owner) reply) }
 {
     if owner >= journal.owners() {
         return Err(Refusal::NoCabinet);

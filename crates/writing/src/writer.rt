@@ -81,7 +81,7 @@ pub(crate) fn check_room(room: usize, fields: &Fields) -> Result<(), Refusal>
 
 // 12 or 13 for a message that no frame may carry.
 fn check_letter<K: OrderKind>(cabinets: u8, limit: u16, frame: &Frame<'_>) -> Result<(), Refusal>
-    ensures { result ≡ letter_answer (codes_of decode) cabinets limit (letter frame.now) }
+    ensures { result ≡ letter_answer (codes_of K.decode) cabinets limit (letter frame.now) }
 {
     let fields = fields_of(frame);
     check_count(limit, &fields)?;
@@ -95,7 +95,7 @@ fn check<K: OrderKind>(
     frame: &Frame<'_>,
     room: usize,
 ) -> Result<Fields, Refusal>
-    ensures { result ≡ and_then (write_answer (codes_of decode) cabinets limit room (letter frame.now)) (λ _. Ok (fields_of (letter frame.now))) }
+    ensures { result ≡ and_then (write_answer (codes_of K.decode) cabinets limit room (letter frame.now)) (λ _. Ok (fields_of (letter frame.now))) }
 {
     check_bounds(cabinets, limit)?;
     let fields = fields_of(frame);
@@ -112,8 +112,8 @@ pub fn write<K: OrderKind>(
     frame: &Frame<'_>,
     out: &mut [u8],
 ) -> Result<u16, Refusal>
-    ensures answer { result ≡ write_answer (codes_of decode) cabinets limit (length out.old) (letter frame.now) }
-    ensures buffer { out.new ≡ written out.old (letter frame.now) (write_answer (codes_of decode) cabinets limit (length out.old) (letter frame.now)) }
+    ensures answer { result ≡ write_answer (codes_of K.decode) cabinets limit (length out.old) (letter frame.now) }
+    ensures buffer { out.new ≡ written out.old (letter frame.now) (write_answer (codes_of K.decode) cabinets limit (length out.old) (letter frame.now)) }
 {
     let fields = check::<K>(cabinets, limit, frame, out.len())?;
     Ok(put_frame(&fields, borrowed(frame.message), out))
