@@ -19,7 +19,7 @@ loop-record-preserved c =
           let is = c.after-live.ensures in
           ap (λ xs. get_or xs c.args.position blank) more
           ∙ found_more j c.loop-record.live c.args.position es r c.loop-record.found c.loop-record.invariant.0 c.loop-record.invariant.1 (subst (λ n. c.args.position < n) is h)
-          ∙ sym c.at-position-found.ensures,
+          ∙ sym c.at_position-found.ensures,
     )
 
 pub returns-then-position-live : goal.returns-then-position-live

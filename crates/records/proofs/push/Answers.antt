@@ -7,7 +7,7 @@ pub returns : goal.returns
 returns c =
     let j = c.args.limit in (
       omega arith,
-      omega (arith, c.make-room-end.ensures.free),
-      replay_set j c.make-room-end.new.records c.make-room-end.result c.args.made (omega arith)
-          ∙ ap (λ es. step j es c.args.made) c.make-room-end.ensures.same,
+      omega (arith, c.make_room-end.ensures.free),
+      replay_set j c.make_room-end.new.records c.make_room-end.result c.args.made (omega arith)
+          ∙ ap (λ es. step j es c.args.made) c.make_room-end.ensures.same,
     )

@@ -12,4 +12,4 @@ loop-i-preserved c =
     let bit = one_shl i 16 c.loop-i-test.true in
     let double : 2 ^ (i + 1) ≡ 2 ^ i * 2 = ap (λ n. 2 ^ n) (add-one i) ∙ pow-suc 2 i in
     let more = holders_more c.args.self.now.acknowledged c.args.entries i c.loop-i.set _ c.loop-i.invariant.1 bit in
-    (omega arith, ap (λ n. c.loop-i.set + n) c.bit-if-set.ensures.0 ∙ more)
+    (omega arith, ap (λ n. c.loop-i.set + n) c.bit_if-set.ensures.0 ∙ more)

@@ -12,11 +12,11 @@ returns-then-contains-is-carried g c =
 
 pub loop-i-preserved : goal.loop-i-preserved
 loop-i-preserved g c =
-    below_more _ _ c.loop-i.invariant (sym (ap₂ ◌&&◌ c.contains.ensures c.is-carried-in-loop-i.ensures) ∙ c.if-contains-is-carried.false)
+    below_more _ _ c.loop-i.invariant (sym (ap₂ ◌&&◌ c.contains.ensures c.is_carried-in-loop-i.ensures) ∙ c.if-contains-is_carried.false)
 
 pub returns : goal.returns
 returns g c =
     let rule = c.args.rule.now in
-    let carries = sym c.if-not-is-carried.ensures in
+    let carries = sym c.if-not-is_carried.ensures in
     let least = least_from (g.R.QuorumRule.quorum rule) (g.met.R.QuorumRule.grows rule) c.args.self c.args.set c.ranges.set.fits carries (λ i h. c.loop-i.invariant i (omega arith)) in
     (λ _. least, λ _. refl)
