@@ -32,7 +32,8 @@ def turn(text):
         if head and not re.match(r"\s*(?:ensures|requires)", line):
             of_fn += BOUND.findall(line)
         if re.match(r"\s*(?:ensures|requires)\b", line):
-            line = turn_clause(line, of_impl + of_fn)
+            label, brace, clause = line.partition("{")
+            line = label + brace + turn_clause(clause, of_impl + of_fn)
         if re.match(r"\s*\{$", line) or line.endswith(";"):
             head = False
         out.append(line)

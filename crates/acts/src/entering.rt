@@ -23,9 +23,9 @@ fn enter<J: Journal, R: QuorumRule>(
 ) -> Result<Reply, Refusal>
     ensures answer { result ≡ said_by (listed (J.owners journal.old) (J.lists journal.old) number cabinet.old (enter_step (R.quorum rule.now) (J.limit journal.old) number (J.lists journal.old number) cabinet.old entry)) }
     ensures record { cabinet.new ≡ left_by cabinet.old (listed (J.owners journal.old) (J.lists journal.old) number cabinet.old (enter_step (R.quorum rule.now) (J.limit journal.old) number (J.lists journal.old number) cabinet.old entry)) }
-    ensures J.lists { (p : ℕ) → J.lists journal.new p ≡ lists_by (J.lists journal.old) number (listed (J.owners journal.old) (J.lists journal.old) number cabinet.old (enter_step (R.quorum rule.now) (J.limit journal.old) number (J.lists journal.old number) cabinet.old entry)) p }
-    ensures J.owners { J.owners journal.new ≡ J.owners journal.old }
-    ensures J.limit { J.limit journal.new ≡ J.limit journal.old }
+    ensures lists { (p : ℕ) → J.lists journal.new p ≡ lists_by (J.lists journal.old) number (listed (J.owners journal.old) (J.lists journal.old) number cabinet.old (enter_step (R.quorum rule.now) (J.limit journal.old) number (J.lists journal.old number) cabinet.old entry)) p }
+    ensures owners { J.owners journal.new ≡ J.owners journal.old }
+    ensures limit { J.limit journal.new ≡ J.limit journal.old }
 {
     let position = cabinet.list_length(number, journal)?;
     journal.append(number as u16, entry)?;
@@ -47,9 +47,9 @@ pub fn submit<K: OrderKind, J: Journal, R: QuorumRule>(
 ) -> Result<Reply, Refusal>
     ensures answer { result ≡ said_by (listed (J.owners journal.old) (J.lists journal.old) number cabinet.old (submit_step (R.quorum rule.now) (J.limit journal.old) number (J.lists journal.old number) cabinet.old (code_answer (K.proper order) (K.encode order)))) }
     ensures record { cabinet.new ≡ left_by cabinet.old (listed (J.owners journal.old) (J.lists journal.old) number cabinet.old (submit_step (R.quorum rule.now) (J.limit journal.old) number (J.lists journal.old number) cabinet.old (code_answer (K.proper order) (K.encode order)))) }
-    ensures J.lists { (p : ℕ) → J.lists journal.new p ≡ lists_by (J.lists journal.old) number (listed (J.owners journal.old) (J.lists journal.old) number cabinet.old (submit_step (R.quorum rule.now) (J.limit journal.old) number (J.lists journal.old number) cabinet.old (code_answer (K.proper order) (K.encode order)))) p }
-    ensures J.owners { J.owners journal.new ≡ J.owners journal.old }
-    ensures J.limit { J.limit journal.new ≡ J.limit journal.old }
+    ensures lists { (p : ℕ) → J.lists journal.new p ≡ lists_by (J.lists journal.old) number (listed (J.owners journal.old) (J.lists journal.old) number cabinet.old (submit_step (R.quorum rule.now) (J.limit journal.old) number (J.lists journal.old number) cabinet.old (code_answer (K.proper order) (K.encode order)))) p }
+    ensures owners { J.owners journal.new ≡ J.owners journal.old }
+    ensures limit { J.limit journal.new ≡ J.limit journal.old }
 {
     cabinet.list_length(number, journal)?;
     check_leading(cabinet)?;
@@ -110,9 +110,9 @@ pub fn change<J: Journal, R: QuorumRule>(
 ) -> Result<Reply, Refusal>
     ensures answer { result ≡ said_by (listed (J.owners journal.old) (J.lists journal.old) number cabinet.old (change_step (R.quorum rule.now) (J.limit journal.old) cabinets number (J.lists journal.old number) cabinet.old version members)) }
     ensures record { cabinet.new ≡ left_by cabinet.old (listed (J.owners journal.old) (J.lists journal.old) number cabinet.old (change_step (R.quorum rule.now) (J.limit journal.old) cabinets number (J.lists journal.old number) cabinet.old version members)) }
-    ensures J.lists { (p : ℕ) → J.lists journal.new p ≡ lists_by (J.lists journal.old) number (listed (J.owners journal.old) (J.lists journal.old) number cabinet.old (change_step (R.quorum rule.now) (J.limit journal.old) cabinets number (J.lists journal.old number) cabinet.old version members)) p }
-    ensures J.owners { J.owners journal.new ≡ J.owners journal.old }
-    ensures J.limit { J.limit journal.new ≡ J.limit journal.old }
+    ensures lists { (p : ℕ) → J.lists journal.new p ≡ lists_by (J.lists journal.old) number (listed (J.owners journal.old) (J.lists journal.old) number cabinet.old (change_step (R.quorum rule.now) (J.limit journal.old) cabinets number (J.lists journal.old number) cabinet.old version members)) p }
+    ensures owners { J.owners journal.new ≡ J.owners journal.old }
+    ensures limit { J.limit journal.new ≡ J.limit journal.old }
 {
     cabinet.list_length(number, journal)?;
     check_leading(cabinet)?;

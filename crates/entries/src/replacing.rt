@@ -11,9 +11,9 @@ use refusal::Refusal;
 // Refused by 2 where there is no such owner, by 41 where the entries are more than the limit.
 pub fn replace<J: Journal>(journal: &mut J, owner: u16, bytes: &[u8]) -> Result<(), Refusal>
     ensures answer { result ≡ replace_answer (J.owners journal.old) (J.limit journal.old) owner (entries_of bytes.now) }
-    ensures J.lists { (p : ℕ) → J.lists journal.new p ≡ replace_lists (J.owners journal.old) (J.limit journal.old) (J.lists journal.old) owner (entries_of bytes.now) p }
-    ensures J.owners { J.owners journal.new ≡ J.owners journal.old }
-    ensures J.limit { J.limit journal.new ≡ J.limit journal.old }
+    ensures lists { (p : ℕ) → J.lists journal.new p ≡ replace_lists (J.owners journal.old) (J.limit journal.old) (J.lists journal.old) owner (entries_of bytes.now) p }
+    ensures owners { J.owners journal.new ≡ J.owners journal.old }
+    ensures limit { J.limit journal.new ≡ J.limit journal.old }
 {
     if owner >= journal.owners() {
         return Err(Refusal::NoCabinet);

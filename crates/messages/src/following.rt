@@ -40,9 +40,9 @@ pub fn take_entry<J: Journal>(
 ) -> Result<Reply, Refusal>
     ensures answer { result ≡ said_by (listed (J.owners journal.old) (J.lists journal.old) number cabinet.old (entry_step (J.limit journal.old) (J.lists journal.old number) cabinet.old position mark entry)) }
     ensures record { cabinet.new ≡ left_by cabinet.old (listed (J.owners journal.old) (J.lists journal.old) number cabinet.old (entry_step (J.limit journal.old) (J.lists journal.old number) cabinet.old position mark entry)) }
-    ensures J.lists { (p : ℕ) → J.lists journal.new p ≡ lists_by (J.lists journal.old) number (listed (J.owners journal.old) (J.lists journal.old) number cabinet.old (entry_step (J.limit journal.old) (J.lists journal.old number) cabinet.old position mark entry)) p }
-    ensures J.owners { J.owners journal.new ≡ J.owners journal.old }
-    ensures J.limit { J.limit journal.new ≡ J.limit journal.old }
+    ensures lists { (p : ℕ) → J.lists journal.new p ≡ lists_by (J.lists journal.old) number (listed (J.owners journal.old) (J.lists journal.old) number cabinet.old (entry_step (J.limit journal.old) (J.lists journal.old number) cabinet.old position mark entry)) p }
+    ensures owners { J.owners journal.new ≡ J.owners journal.old }
+    ensures limit { J.limit journal.new ≡ J.limit journal.old }
 {
     let length = cabinet.list_length(number, journal)?;
     if position < length as u32 {

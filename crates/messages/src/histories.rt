@@ -79,9 +79,9 @@ fn adopt<J: Journal>(
     requires { mark ≤ length (entries_of entries.now) }
     ensures answer { result ≡ said_by (listed (J.owners journal.old) (J.lists journal.old) number cabinet.old (adopt_step (J.limit journal.old) (J.lists journal.old number) cabinet.old epoch mark (entries_of entries.now))) }
     ensures record { cabinet.new ≡ left_by cabinet.old (listed (J.owners journal.old) (J.lists journal.old) number cabinet.old (adopt_step (J.limit journal.old) (J.lists journal.old number) cabinet.old epoch mark (entries_of entries.now))) }
-    ensures J.lists { (p : ℕ) → J.lists journal.new p ≡ lists_by (J.lists journal.old) number (listed (J.owners journal.old) (J.lists journal.old) number cabinet.old (adopt_step (J.limit journal.old) (J.lists journal.old number) cabinet.old epoch mark (entries_of entries.now))) p }
-    ensures J.owners { J.owners journal.new ≡ J.owners journal.old }
-    ensures J.limit { J.limit journal.new ≡ J.limit journal.old }
+    ensures lists { (p : ℕ) → J.lists journal.new p ≡ lists_by (J.lists journal.old) number (listed (J.owners journal.old) (J.lists journal.old) number cabinet.old (adopt_step (J.limit journal.old) (J.lists journal.old number) cabinet.old epoch mark (entries_of entries.now))) p }
+    ensures owners { J.owners journal.new ≡ J.owners journal.old }
+    ensures limit { J.limit journal.new ≡ J.limit journal.old }
 {
     cabinet.list_length(number, journal)?;
     let count = count_of(entries);
@@ -109,9 +109,9 @@ pub fn take_history<J: Journal>(
 ) -> Result<Reply, Refusal>
     ensures answer { result ≡ said_by (listed (J.owners journal.old) (J.lists journal.old) number cabinet.old (history_step (J.limit journal.old) (J.lists journal.old number) cabinet.old epoch mark (entries_of entries.now))) }
     ensures record { cabinet.new ≡ left_by cabinet.old (listed (J.owners journal.old) (J.lists journal.old) number cabinet.old (history_step (J.limit journal.old) (J.lists journal.old number) cabinet.old epoch mark (entries_of entries.now))) }
-    ensures J.lists { (p : ℕ) → J.lists journal.new p ≡ lists_by (J.lists journal.old) number (listed (J.owners journal.old) (J.lists journal.old) number cabinet.old (history_step (J.limit journal.old) (J.lists journal.old number) cabinet.old epoch mark (entries_of entries.now))) p }
-    ensures J.owners { J.owners journal.new ≡ J.owners journal.old }
-    ensures J.limit { J.limit journal.new ≡ J.limit journal.old }
+    ensures lists { (p : ℕ) → J.lists journal.new p ≡ lists_by (J.lists journal.old) number (listed (J.owners journal.old) (J.lists journal.old) number cabinet.old (history_step (J.limit journal.old) (J.lists journal.old number) cabinet.old epoch mark (entries_of entries.now))) p }
+    ensures owners { J.owners journal.new ≡ J.owners journal.old }
+    ensures limit { J.limit journal.new ≡ J.limit journal.old }
 {
     let length = cabinet.list_length(number, journal)?;
     let count = count_of(entries);

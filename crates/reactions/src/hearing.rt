@@ -42,9 +42,9 @@ fn take<J: Journal, R: QuorumRule>(
 ) -> Result<Reply, Refusal>
     ensures answer { result ≡ said_by (listed (J.owners journal.old) (J.lists journal.old) number cabinet.old (content_step (R.quorum rule.now) (J.limit journal.old) number (J.lists journal.old number) cabinet.old frame.now.sender frame.now.epoch (said frame.now.message))) }
     ensures record { cabinet.new ≡ left_by cabinet.old (listed (J.owners journal.old) (J.lists journal.old) number cabinet.old (content_step (R.quorum rule.now) (J.limit journal.old) number (J.lists journal.old number) cabinet.old frame.now.sender frame.now.epoch (said frame.now.message))) }
-    ensures J.lists { (p : ℕ) → J.lists journal.new p ≡ lists_by (J.lists journal.old) number (listed (J.owners journal.old) (J.lists journal.old) number cabinet.old (content_step (R.quorum rule.now) (J.limit journal.old) number (J.lists journal.old number) cabinet.old frame.now.sender frame.now.epoch (said frame.now.message))) p }
-    ensures J.owners { J.owners journal.new ≡ J.owners journal.old }
-    ensures J.limit { J.limit journal.new ≡ J.limit journal.old }
+    ensures lists { (p : ℕ) → J.lists journal.new p ≡ lists_by (J.lists journal.old) number (listed (J.owners journal.old) (J.lists journal.old) number cabinet.old (content_step (R.quorum rule.now) (J.limit journal.old) number (J.lists journal.old number) cabinet.old frame.now.sender frame.now.epoch (said frame.now.message))) p }
+    ensures owners { J.owners journal.new ≡ J.owners journal.old }
+    ensures limit { J.limit journal.new ≡ J.limit journal.old }
 {
     let epoch = frame.epoch;
     match frame.message {
@@ -82,9 +82,9 @@ fn react<J: Journal, R: QuorumRule>(
 ) -> Result<Reply, Refusal>
     ensures answer { result ≡ said_by (listed (J.owners journal.old) (J.lists journal.old) number cabinet.old (react (R.quorum rule.now) (J.limit journal.old) number (J.lists journal.old number) cabinet.old (letter frame.now))) }
     ensures record { cabinet.new ≡ left_by cabinet.old (listed (J.owners journal.old) (J.lists journal.old) number cabinet.old (react (R.quorum rule.now) (J.limit journal.old) number (J.lists journal.old number) cabinet.old (letter frame.now))) }
-    ensures J.lists { (p : ℕ) → J.lists journal.new p ≡ lists_by (J.lists journal.old) number (listed (J.owners journal.old) (J.lists journal.old) number cabinet.old (react (R.quorum rule.now) (J.limit journal.old) number (J.lists journal.old number) cabinet.old (letter frame.now))) p }
-    ensures J.owners { J.owners journal.new ≡ J.owners journal.old }
-    ensures J.limit { J.limit journal.new ≡ J.limit journal.old }
+    ensures lists { (p : ℕ) → J.lists journal.new p ≡ lists_by (J.lists journal.old) number (listed (J.owners journal.old) (J.lists journal.old) number cabinet.old (react (R.quorum rule.now) (J.limit journal.old) number (J.lists journal.old number) cabinet.old (letter frame.now))) p }
+    ensures owners { J.owners journal.new ≡ J.owners journal.old }
+    ensures limit { J.limit journal.new ≡ J.limit journal.old }
 {
     cabinet.list_length(number, journal)?;
     check_letter(cabinet, number, frame)?;
@@ -102,9 +102,9 @@ pub fn hear<K: OrderKind, J: Journal, R: QuorumRule>(
 ) -> Result<Reply, Refusal>
     ensures answer { result ≡ said_by (listed (J.owners journal.old) (J.lists journal.old) number cabinet.old (hear_step (codes_of K.decode) (R.quorum rule.now) cabinets (J.limit journal.old) number (J.lists journal.old number) cabinet.old bytes.now)) }
     ensures record { cabinet.new ≡ left_by cabinet.old (listed (J.owners journal.old) (J.lists journal.old) number cabinet.old (hear_step (codes_of K.decode) (R.quorum rule.now) cabinets (J.limit journal.old) number (J.lists journal.old number) cabinet.old bytes.now)) }
-    ensures J.lists { (p : ℕ) → J.lists journal.new p ≡ lists_by (J.lists journal.old) number (listed (J.owners journal.old) (J.lists journal.old) number cabinet.old (hear_step (codes_of K.decode) (R.quorum rule.now) cabinets (J.limit journal.old) number (J.lists journal.old number) cabinet.old bytes.now)) p }
-    ensures J.owners { J.owners journal.new ≡ J.owners journal.old }
-    ensures J.limit { J.limit journal.new ≡ J.limit journal.old }
+    ensures lists { (p : ℕ) → J.lists journal.new p ≡ lists_by (J.lists journal.old) number (listed (J.owners journal.old) (J.lists journal.old) number cabinet.old (hear_step (codes_of K.decode) (R.quorum rule.now) cabinets (J.limit journal.old) number (J.lists journal.old number) cabinet.old bytes.now)) p }
+    ensures owners { J.owners journal.new ≡ J.owners journal.old }
+    ensures limit { J.limit journal.new ≡ J.limit journal.old }
 {
     cabinet.list_length(number, journal)?;
     let frame = read::<K>(cabinets, journal.limit(), bytes)?;

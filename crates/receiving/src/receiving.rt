@@ -33,9 +33,9 @@ pub fn receive<K: OrderKind, J: Journal, R: QuorumRule>(
 ) -> Result<(u8, u16), Refusal>
     ensures answer { result ≡ answer_by number (receive_step (codes_of K.decode) (R.quorum rule.now) cabinets (J.owners journal.old) (J.limit journal.old) number (J.lists journal.old number) cabinet.old bytes.now (length out.old)) }
     ensures record { cabinet.new ≡ left_by cabinet.old (receive_step (codes_of K.decode) (R.quorum rule.now) cabinets (J.owners journal.old) (J.limit journal.old) number (J.lists journal.old number) cabinet.old bytes.now (length out.old)) }
-    ensures J.lists { (p : ℕ) → J.lists journal.new p ≡ lists_by (J.lists journal.old) number (receive_step (codes_of K.decode) (R.quorum rule.now) cabinets (J.owners journal.old) (J.limit journal.old) number (J.lists journal.old number) cabinet.old bytes.now (length out.old)) p }
-    ensures J.owners { J.owners journal.new ≡ J.owners journal.old }
-    ensures J.limit { J.limit journal.new ≡ J.limit journal.old }
+    ensures lists { (p : ℕ) → J.lists journal.new p ≡ lists_by (J.lists journal.old) number (receive_step (codes_of K.decode) (R.quorum rule.now) cabinets (J.owners journal.old) (J.limit journal.old) number (J.lists journal.old number) cabinet.old bytes.now (length out.old)) p }
+    ensures owners { J.owners journal.new ≡ J.owners journal.old }
+    ensures limit { J.limit journal.new ≡ J.limit journal.old }
     ensures buffer { out.new ≡ buffer_by out.old number (receive_step (codes_of K.decode) (R.quorum rule.now) cabinets (J.owners journal.old) (J.limit journal.old) number (J.lists journal.old number) cabinet.old bytes.now (length out.old)) }
 {
     check_place(cabinets, journal.owners(), number)?;

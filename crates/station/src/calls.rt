@@ -23,9 +23,9 @@ pub fn stand<K: OrderKind, J: Journal, R: QuorumRule>(
 ) -> Result<(u8, u16), Refusal>
     ensures answer { result ≡ answer_by cabinet (stand_call (codes_of K.decode) (R.quorum rule.now) (station table.old (J.owners journal.old) (J.limit journal.old) (J.lists journal.old) trays.old) cabinet tray) }
     ensures table { table.new ≡ (station_after (station table.old (J.owners journal.old) (J.limit journal.old) (J.lists journal.old) trays.old) cabinet tray (stand_call (codes_of K.decode) (R.quorum rule.now) (station table.old (J.owners journal.old) (J.limit journal.old) (J.lists journal.old) trays.old) cabinet tray)).table }
-    ensures J.lists { (p : ℕ) → J.lists journal.new p ≡ (station_after (station table.old (J.owners journal.old) (J.limit journal.old) (J.lists journal.old) trays.old) cabinet tray (stand_call (codes_of K.decode) (R.quorum rule.now) (station table.old (J.owners journal.old) (J.limit journal.old) (J.lists journal.old) trays.old) cabinet tray)).lists p }
-    ensures J.owners { J.owners journal.new ≡ J.owners journal.old }
-    ensures J.limit { J.limit journal.new ≡ J.limit journal.old }
+    ensures lists { (p : ℕ) → J.lists journal.new p ≡ (station_after (station table.old (J.owners journal.old) (J.limit journal.old) (J.lists journal.old) trays.old) cabinet tray (stand_call (codes_of K.decode) (R.quorum rule.now) (station table.old (J.owners journal.old) (J.limit journal.old) (J.lists journal.old) trays.old) cabinet tray)).lists p }
+    ensures owners { J.owners journal.new ≡ J.owners journal.old }
+    ensures limit { J.limit journal.new ≡ J.limit journal.old }
     ensures trays { trays.new ≡ (station_after (station table.old (J.owners journal.old) (J.limit journal.old) (J.lists journal.old) trays.old) cabinet tray (stand_call (codes_of K.decode) (R.quorum rule.now) (station table.old (J.owners journal.old) (J.limit journal.old) (J.lists journal.old) trays.old) cabinet tray)).trays }
 {
     let act = Act::Stand;
@@ -44,9 +44,9 @@ pub fn submit<K: OrderKind, J: Journal, R: QuorumRule>(
 ) -> Result<(u8, u16), Refusal>
     ensures answer { result ≡ answer_by cabinet (submit_call (kind_of K.proper K.encode K.decode) (R.quorum rule.now) (station table.old (J.owners journal.old) (J.limit journal.old) (J.lists journal.old) trays.old) cabinet order tray) }
     ensures table { table.new ≡ (station_after (station table.old (J.owners journal.old) (J.limit journal.old) (J.lists journal.old) trays.old) cabinet tray (submit_call (kind_of K.proper K.encode K.decode) (R.quorum rule.now) (station table.old (J.owners journal.old) (J.limit journal.old) (J.lists journal.old) trays.old) cabinet order tray)).table }
-    ensures J.lists { (p : ℕ) → J.lists journal.new p ≡ (station_after (station table.old (J.owners journal.old) (J.limit journal.old) (J.lists journal.old) trays.old) cabinet tray (submit_call (kind_of K.proper K.encode K.decode) (R.quorum rule.now) (station table.old (J.owners journal.old) (J.limit journal.old) (J.lists journal.old) trays.old) cabinet order tray)).lists p }
-    ensures J.owners { J.owners journal.new ≡ J.owners journal.old }
-    ensures J.limit { J.limit journal.new ≡ J.limit journal.old }
+    ensures lists { (p : ℕ) → J.lists journal.new p ≡ (station_after (station table.old (J.owners journal.old) (J.limit journal.old) (J.lists journal.old) trays.old) cabinet tray (submit_call (kind_of K.proper K.encode K.decode) (R.quorum rule.now) (station table.old (J.owners journal.old) (J.limit journal.old) (J.lists journal.old) trays.old) cabinet order tray)).lists p }
+    ensures owners { J.owners journal.new ≡ J.owners journal.old }
+    ensures limit { J.limit journal.new ≡ J.limit journal.old }
     ensures trays { trays.new ≡ (station_after (station table.old (J.owners journal.old) (J.limit journal.old) (J.lists journal.old) trays.old) cabinet tray (submit_call (kind_of K.proper K.encode K.decode) (R.quorum rule.now) (station table.old (J.owners journal.old) (J.limit journal.old) (J.lists journal.old) trays.old) cabinet order tray)).trays }
 {
     let act = Act::Submit(order);
@@ -66,9 +66,9 @@ pub fn change<K: OrderKind, J: Journal, R: QuorumRule>(
 ) -> Result<(u8, u16), Refusal>
     ensures answer { result ≡ answer_by cabinet (change_call (codes_of K.decode) (R.quorum rule.now) (station table.old (J.owners journal.old) (J.limit journal.old) (J.lists journal.old) trays.old) cabinet version members tray) }
     ensures table { table.new ≡ (station_after (station table.old (J.owners journal.old) (J.limit journal.old) (J.lists journal.old) trays.old) cabinet tray (change_call (codes_of K.decode) (R.quorum rule.now) (station table.old (J.owners journal.old) (J.limit journal.old) (J.lists journal.old) trays.old) cabinet version members tray)).table }
-    ensures J.lists { (p : ℕ) → J.lists journal.new p ≡ (station_after (station table.old (J.owners journal.old) (J.limit journal.old) (J.lists journal.old) trays.old) cabinet tray (change_call (codes_of K.decode) (R.quorum rule.now) (station table.old (J.owners journal.old) (J.limit journal.old) (J.lists journal.old) trays.old) cabinet version members tray)).lists p }
-    ensures J.owners { J.owners journal.new ≡ J.owners journal.old }
-    ensures J.limit { J.limit journal.new ≡ J.limit journal.old }
+    ensures lists { (p : ℕ) → J.lists journal.new p ≡ (station_after (station table.old (J.owners journal.old) (J.limit journal.old) (J.lists journal.old) trays.old) cabinet tray (change_call (codes_of K.decode) (R.quorum rule.now) (station table.old (J.owners journal.old) (J.limit journal.old) (J.lists journal.old) trays.old) cabinet version members tray)).lists p }
+    ensures owners { J.owners journal.new ≡ J.owners journal.old }
+    ensures limit { J.limit journal.new ≡ J.limit journal.old }
     ensures trays { trays.new ≡ (station_after (station table.old (J.owners journal.old) (J.limit journal.old) (J.lists journal.old) trays.old) cabinet tray (change_call (codes_of K.decode) (R.quorum rule.now) (station table.old (J.owners journal.old) (J.limit journal.old) (J.lists journal.old) trays.old) cabinet version members tray)).trays }
 {
     let act = Act::Change { version, members };
@@ -86,9 +86,9 @@ pub fn refresh<K: OrderKind, J: Journal, R: QuorumRule>(
 ) -> Result<(u8, u16), Refusal>
     ensures answer { result ≡ answer_by cabinet (refresh_call (codes_of K.decode) (station table.old (J.owners journal.old) (J.limit journal.old) (J.lists journal.old) trays.old) cabinet tray) }
     ensures table { table.new ≡ (station_after (station table.old (J.owners journal.old) (J.limit journal.old) (J.lists journal.old) trays.old) cabinet tray (refresh_call (codes_of K.decode) (station table.old (J.owners journal.old) (J.limit journal.old) (J.lists journal.old) trays.old) cabinet tray)).table }
-    ensures J.lists { (p : ℕ) → J.lists journal.new p ≡ (station_after (station table.old (J.owners journal.old) (J.limit journal.old) (J.lists journal.old) trays.old) cabinet tray (refresh_call (codes_of K.decode) (station table.old (J.owners journal.old) (J.limit journal.old) (J.lists journal.old) trays.old) cabinet tray)).lists p }
-    ensures J.owners { J.owners journal.new ≡ J.owners journal.old }
-    ensures J.limit { J.limit journal.new ≡ J.limit journal.old }
+    ensures lists { (p : ℕ) → J.lists journal.new p ≡ (station_after (station table.old (J.owners journal.old) (J.limit journal.old) (J.lists journal.old) trays.old) cabinet tray (refresh_call (codes_of K.decode) (station table.old (J.owners journal.old) (J.limit journal.old) (J.lists journal.old) trays.old) cabinet tray)).lists p }
+    ensures owners { J.owners journal.new ≡ J.owners journal.old }
+    ensures limit { J.limit journal.new ≡ J.limit journal.old }
     ensures trays { trays.new ≡ (station_after (station table.old (J.owners journal.old) (J.limit journal.old) (J.lists journal.old) trays.old) cabinet tray (refresh_call (codes_of K.decode) (station table.old (J.owners journal.old) (J.limit journal.old) (J.lists journal.old) trays.old) cabinet tray)).trays }
 {
     let act = Act::Refresh;

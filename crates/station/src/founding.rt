@@ -59,9 +59,9 @@ fn check_found<J: Journal, R: QuorumRule>(
 // The owner's list becomes the entry alone.
 fn open_list<J: Journal>(journal: &mut J, owner: u16, entry: Entry) -> Result<(), Refusal>
     ensures answer { result ≡ owned (J.owners journal.old) owner (Ok tt) }
-    ensures J.lists { (p : ℕ) → J.lists journal.new p ≡ (if nat_lt owner (J.owners journal.old) then (if nat_eq p owner then entry ∷ [] else J.lists journal.old p) else J.lists journal.old p) }
-    ensures J.owners { J.owners journal.new ≡ J.owners journal.old }
-    ensures J.limit { J.limit journal.new ≡ J.limit journal.old }
+    ensures lists { (p : ℕ) → J.lists journal.new p ≡ (if nat_lt owner (J.owners journal.old) then (if nat_eq p owner then entry ∷ [] else J.lists journal.old p) else J.lists journal.old p) }
+    ensures owners { J.owners journal.new ≡ J.owners journal.old }
+    ensures limit { J.limit journal.new ≡ J.limit journal.old }
 {
     journal.keep(owner, 0)?;
     journal.append(owner, entry)
@@ -71,9 +71,9 @@ fn open_list<J: Journal>(journal: &mut J, owner: u16, entry: Entry) -> Result<()
 fn open_lists<J: Journal>(journal: &mut J, cabinets: u16, opening: Entry) -> Result<(), Refusal>
     requires { cabinets ≤ J.owners journal.old }
     ensures answer { result ≡ Ok tt }
-    ensures J.lists { (p : ℕ) → J.lists journal.new p ≡ (if nat_lt p cabinets then opening ∷ [] else J.lists journal.old p) }
-    ensures J.owners { J.owners journal.new ≡ J.owners journal.old }
-    ensures J.limit { J.limit journal.new ≡ J.limit journal.old }
+    ensures lists { (p : ℕ) → J.lists journal.new p ≡ (if nat_lt p cabinets then opening ∷ [] else J.lists journal.old p) }
+    ensures owners { J.owners journal.new ≡ J.owners journal.old }
+    ensures limit { J.limit journal.new ≡ J.limit journal.old }
 {
     for owner in 0..cabinets {
         open_list(journal, owner, opening)?;
@@ -91,9 +91,9 @@ pub fn found<J: Journal, R: QuorumRule>(
 ) -> Result<(u8, u16), Refusal>
     ensures answer { result ≡ found_reply (found_answer (R.quorum rule.now) (station table.old (J.owners journal.old) (J.limit journal.old) (J.lists journal.old) trays.old) members) }
     ensures table { table.new ≡ (station_founded (station table.old (J.owners journal.old) (J.limit journal.old) (J.lists journal.old) trays.old) members (found_answer (R.quorum rule.now) (station table.old (J.owners journal.old) (J.limit journal.old) (J.lists journal.old) trays.old) members)).table }
-    ensures J.lists { (p : ℕ) → J.lists journal.new p ≡ (station_founded (station table.old (J.owners journal.old) (J.limit journal.old) (J.lists journal.old) trays.old) members (found_answer (R.quorum rule.now) (station table.old (J.owners journal.old) (J.limit journal.old) (J.lists journal.old) trays.old) members)).lists p }
-    ensures J.owners { J.owners journal.new ≡ J.owners journal.old }
-    ensures J.limit { J.limit journal.new ≡ J.limit journal.old }
+    ensures lists { (p : ℕ) → J.lists journal.new p ≡ (station_founded (station table.old (J.owners journal.old) (J.limit journal.old) (J.lists journal.old) trays.old) members (found_answer (R.quorum rule.now) (station table.old (J.owners journal.old) (J.limit journal.old) (J.lists journal.old) trays.old) members)).lists p }
+    ensures owners { J.owners journal.new ≡ J.owners journal.old }
+    ensures limit { J.limit journal.new ≡ J.limit journal.old }
     ensures trays { trays.new ≡ (station_founded (station table.old (J.owners journal.old) (J.limit journal.old) (J.lists journal.old) trays.old) members (found_answer (R.quorum rule.now) (station table.old (J.owners journal.old) (J.limit journal.old) (J.lists journal.old) trays.old) members)).trays }
 {
     check_found(table, journal, trays, rule, members)?;

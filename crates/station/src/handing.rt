@@ -52,9 +52,9 @@ pub fn hand<K: OrderKind, J: Journal, R: QuorumRule>(
 ) -> Result<(u8, u16), Refusal>
     ensures answer { result ≡ answer_by cabinet (hand_call (codes_of K.decode) (R.quorum rule.now) (station table.old (J.owners journal.old) (J.limit journal.old) (J.lists journal.old) trays.old) from cabinet to) }
     ensures table { table.new ≡ (station_after (station table.old (J.owners journal.old) (J.limit journal.old) (J.lists journal.old) trays.old) cabinet to (hand_call (codes_of K.decode) (R.quorum rule.now) (station table.old (J.owners journal.old) (J.limit journal.old) (J.lists journal.old) trays.old) from cabinet to)).table }
-    ensures J.lists { (p : ℕ) → J.lists journal.new p ≡ (station_after (station table.old (J.owners journal.old) (J.limit journal.old) (J.lists journal.old) trays.old) cabinet to (hand_call (codes_of K.decode) (R.quorum rule.now) (station table.old (J.owners journal.old) (J.limit journal.old) (J.lists journal.old) trays.old) from cabinet to)).lists p }
-    ensures J.owners { J.owners journal.new ≡ J.owners journal.old }
-    ensures J.limit { J.limit journal.new ≡ J.limit journal.old }
+    ensures lists { (p : ℕ) → J.lists journal.new p ≡ (station_after (station table.old (J.owners journal.old) (J.limit journal.old) (J.lists journal.old) trays.old) cabinet to (hand_call (codes_of K.decode) (R.quorum rule.now) (station table.old (J.owners journal.old) (J.limit journal.old) (J.lists journal.old) trays.old) from cabinet to)).lists p }
+    ensures owners { J.owners journal.new ≡ J.owners journal.old }
+    ensures limit { J.limit journal.new ≡ J.limit journal.old }
     ensures trays { trays.new ≡ (station_after (station table.old (J.owners journal.old) (J.limit journal.old) (J.lists journal.old) trays.old) cabinet to (hand_call (codes_of K.decode) (R.quorum rule.now) (station table.old (J.owners journal.old) (J.limit journal.old) (J.lists journal.old) trays.old) from cabinet to)).trays }
 {
     check_hand::<K, J>(table, journal, trays, from, cabinet, to)?;

@@ -12,17 +12,17 @@ use Rattle.acts.specs.Acts.{entered, enter_step}
 use Rattle.acts.proofs.Room.{append_told, append_refused, with_room, without_room, lists_with_room, lists_without_room, commit_entered}
 use Rattle.acts.proofs.entering.enter.Goals as goal
 
-pub returns-in-err-position : goal.returns-in-err-position
-returns-in-err-position g c =
-    let error = err_from_is_err_and c.from-residual.result c.from-residual.ensures.1 in
+pub returns-in_err-position : goal.returns-in_err-position
+returns-in_err-position g c =
+    let error = err_from_is_err_and c.from_residual.result c.from_residual.ensures.1 in
     let same =
     untouched (g.J.Journal.owners c.args.journal.now) (g.J.Journal.lists c.args.journal.now) c.args.number c.args.cabinet.now (length (g.J.Journal.lists c.args.journal.now c.args.number))
     (enter_step (g.R.QuorumRule.quorum c.args.rule.now) (g.J.Journal.limit c.args.journal.now) c.args.number (g.J.Journal.lists c.args.journal.now c.args.number) c.args.cabinet.now c.args.entry)
-    c.in-err-position.field-0.0 c.from-residual.result (sym c.in-err-position.was ∙ c.list-length.ensures) (error.1 ∙ ap (λ (r : Refusal). Err r) error.2) in
+    c.in_err-position.field-0.0 c.from_residual.result (sym c.in_err-position.was ∙ c.list_length.ensures) (error.1 ∙ ap (λ (r : Refusal). Err r) error.2) in
     record { answer = same.0; «record» = same.1; lists = same.2; owners = refl; limit = refl }
 
-pub returns-in-err-append : goal.returns-in-err-append
-returns-in-err-append g c =
+pub returns-in_err-append : goal.returns-in_err-append
+returns-in_err-append g c =
     let ls : ℕ → List Entry = g.J.Journal.lists c.args.journal.now in
     let owners : ℕ = g.J.Journal.owners c.args.journal.now in
     let limit : ℕ = g.J.Journal.limit c.args.journal.now in
@@ -30,10 +30,10 @@ returns-in-err-append g c =
     let i : ℕ = c.args.number in
     let before : Cabinet = c.args.cabinet.now in
     let e : Entry = c.args.entry in
-    let count = listed_tells owners ls i before c.in-ok-position.position (length (ls i)) c.in-ok-position.ensures in
-    let told = append_refused owners limit i ls c.in-err-append.field-0.0 count.0 (sym c.in-err-append.was ∙ c.append.ensures.answer) in
+    let count = listed_tells owners ls i before c.in_ok-position.position (length (ls i)) c.in_ok-position.ensures in
+    let told = append_refused owners limit i ls c.in_err-append.field-0.0 count.0 (sym c.in_err-append.was ∙ c.append.ensures.answer) in
     let full = without_room quorum owners limit ls i before e count.0 count.1 told.0 in
-    let error = err_from_is_err_and c.from-residual-in-err-append.result c.from-residual-in-err-append.ensures.1 in
+    let error = err_from_is_err_and c.from_residual-in_err-append.result c.from_residual-in_err-append.ensures.1 in
     record {
       answer = error.1 ∙ ap (λ (r : Refusal). Err r) (error.2 ∙ told.1) ∙ sym (ap said_by full);
       «record» = sym (ap (left_by before) full);
@@ -42,8 +42,8 @@ returns-in-err-append g c =
       limit = c.append.ensures.limit;
     }
 
-pub returns-in-err-commit : goal.returns-in-err-commit
-returns-in-err-commit g c =
+pub returns-in_err-commit : goal.returns-in_err-commit
+returns-in_err-commit g c =
     let ls : ℕ → List Entry = g.J.Journal.lists c.args.journal.now in
     let ls' : ℕ → List Entry = g.J.Journal.lists c.append.new.self in
     let owners : ℕ = g.J.Journal.owners c.args.journal.now in
@@ -53,13 +53,13 @@ returns-in-err-commit g c =
     let i : ℕ = c.args.number in
     let before : Cabinet = c.args.cabinet.now in
     let e : Entry = c.args.entry in
-    let count = listed_tells owners ls i before c.in-ok-position.position (length (ls i)) c.in-ok-position.ensures in
-    let told = append_told owners limit i ls (sym c.in-ok-append.was ∙ c.append.ensures.answer) in
+    let count = listed_tells owners ls i before c.in_ok-position.position (length (ls i)) c.in_ok-position.ensures in
+    let told = append_told owners limit i ls (sym c.in_ok-append.was ∙ c.append.ensures.answer) in
     let lists = λ (p : ℕ). c.append.ensures.lists p ∙ lists_with_room owners limit ls i e count.0 told.1 p in
     let grown : ls' i ≡ ls i ++ e ∷ [] = lists i ∙ cond-true (eqb i i) (ls i ++ e ∷ []) (ls i) (eq-eqb i i refl) in
     let raise : c.raise.new.self ≡ raised i (length (ls i) + 1) before = c.raise.ensures ∙ ap (λ n. raised i (n + 1) before) count.2 in
     let committed = commit_entered quorum owners limit ls i before e count.0 count.1 owners' ls' c.raise.new.self c.append.ensures.owners grown raise in
-    let refused : ◌≡◌ {A = Result (Unit {0}) Refusal} (Err c.in-err-commit.field-0.0) (Ok tt) = sym c.in-err-commit.was ∙ c.commit.ensures.answer ∙ ap done committed in
+    let refused : ◌≡◌ {A = Result (Unit {0}) Refusal} (Err c.in_err-commit.field-0.0) (Ok tt) = sym c.in_err-commit.was ∙ c.commit.ensures.answer ∙ ap done committed in
     absurd (let z : ◌≡◌ {A = ℕ} 0 1 = cc in omega arith)
 
 pub returns : goal.returns
@@ -73,8 +73,8 @@ returns g c =
     let i : ℕ = c.args.number in
     let before : Cabinet = c.args.cabinet.now in
     let e : Entry = c.args.entry in
-    let count = listed_tells owners ls i before c.in-ok-position.position (length (ls i)) c.in-ok-position.ensures in
-    let told = append_told owners limit i ls (sym c.in-ok-append.was ∙ c.append.ensures.answer) in
+    let count = listed_tells owners ls i before c.in_ok-position.position (length (ls i)) c.in_ok-position.ensures in
+    let told = append_told owners limit i ls (sym c.in_ok-append.was ∙ c.append.ensures.answer) in
     let room = with_room quorum owners limit ls i before e count.0 count.1 told.1 in
     let lists = λ (p : ℕ). c.append.ensures.lists p ∙ lists_with_room owners limit ls i e count.0 told.1 p in
     let grown : ls' i ≡ ls i ++ e ∷ [] = lists i ∙ cond-true (eqb i i) (ls i ++ e ∷ []) (ls i) (eq-eqb i i refl) in

@@ -12,7 +12,7 @@ pub loop-mark-init : goal.loop-mark-init
 loop-mark-init g c =
     let ls : ℕ → List Entry = g.J.Journal.lists c.args.journal.now in
     let o : ℕ = c.args.owner in
-    let start = front_tells (g.J.Journal.owners c.args.journal.now) o c.args.cabinet.now.mark ls c.in-ok-members.members (members_before (ls o) c.args.cabinet.now.mark) c.in-ok-members.ensures in
+    let start = front_tells (g.J.Journal.owners c.args.journal.now) o c.args.cabinet.now.mark ls c.in_ok-members.members (members_before (ls o) c.args.cabinet.now.mark) c.in_ok-members.ensures in
     (start.2, refl)
 
 pub loop-mark-preserved : goal.loop-mark-preserved
@@ -22,14 +22,14 @@ loop-mark-preserved g c =
     let quorum : ℕ → ℕ → Bool = g.R.QuorumRule.quorum c.args.rule.now in
     let lengths : List ℕ = c.args.cabinet.now.acknowledged in
     let mark : ℕ = c.loop-mark.mark in
-    let e : Entry = c.in-ok-entry.entry in
-    let at = entry_tells (g.J.Journal.owners c.args.journal.now) o mark e ls c.in-ok-entry.ensures in
+    let e : Entry = c.in_ok-entry.entry in
+    let at = entry_tells (g.J.Journal.owners c.args.journal.now) o mark e ls c.in_ok-entry.ensures in
     let carried : commits quorum (ls o) (holders_below lengths mark 16) mark ≡ true
     = ap (λ set. commits quorum (ls o) set mark) (sym c.holders.ensures)
     ∙ sym (commits_is quorum (ls o) mark c.loop-mark.members c.holders.result e at.1 c.loop-mark.invariant.0)
     ∙ sym c.commits.ensures ∙ c.if-not-commits.false in
     let rest : length (ls o) - mark ≡ suc (length (ls o) - (mark + 1)) = omega (arith, at.0) in (
-      c.members-after-members.ensures ∙ members_more (ls o) mark c.loop-mark.members e at.1 c.loop-mark.invariant.0,
+      c.members_after-members.ensures ∙ members_more (ls o) mark c.loop-mark.members e at.1 c.loop-mark.invariant.0,
       sym (ap (λ n. risen quorum (ls o) lengths n mark) rest ∙ risen_more quorum (ls o) lengths (length (ls o) - (mark + 1)) mark carried) ∙ c.loop-mark.invariant.1,
     )
 
@@ -41,9 +41,9 @@ returns-then-not-commits g c =
     let quorum : ℕ → ℕ → Bool = g.R.QuorumRule.quorum c.args.rule.now in
     let lengths : List ℕ = c.args.cabinet.now.acknowledged in
     let mark : ℕ = c.loop-mark.mark in
-    let e : Entry = c.in-ok-entry.entry in
-    let start = front_tells owners o c.args.cabinet.now.mark ls c.in-ok-members.members (members_before (ls o) c.args.cabinet.now.mark) c.in-ok-members.ensures in
-    let at = entry_tells owners o mark e ls c.in-ok-entry.ensures in
+    let e : Entry = c.in_ok-entry.entry in
+    let start = front_tells owners o c.args.cabinet.now.mark ls c.in_ok-members.members (members_before (ls o) c.args.cabinet.now.mark) c.in_ok-members.ensures in
+    let at = entry_tells owners o mark e ls c.in_ok-entry.ensures in
     let waits : commits quorum (ls o) (holders_below lengths mark 16) mark ≡ false
     = ap (λ set. commits quorum (ls o) set mark) (sym c.holders.ensures)
     ∙ sym (commits_is quorum (ls o) mark c.loop-mark.members c.holders.result e at.1 c.loop-mark.invariant.0)
@@ -62,11 +62,11 @@ returns g c =
     let quorum : ℕ → ℕ → Bool = g.R.QuorumRule.quorum c.args.rule.now in
     let lengths : List ℕ = c.args.cabinet.now.acknowledged in
     let mark : ℕ = c.loop-mark.mark in
-    let count = length_tells owners o c.in-ok-count.count ls c.in-ok-count.ensures in
-    let start = front_tells owners o c.args.cabinet.now.mark ls c.in-ok-members.members (members_before (ls o) c.args.cabinet.now.mark) c.in-ok-members.ensures in
-    let end : mark ≡ c.in-ok-count.count = omega (arith, count.1, start.1, c.loop-mark.auto.mark-end (omega (arith, count.1, start.1))) in
+    let count = length_tells owners o c.in_ok-count.count ls c.in_ok-count.ensures in
+    let start = front_tells owners o c.args.cabinet.now.mark ls c.in_ok-members.members (members_before (ls o) c.args.cabinet.now.mark) c.in_ok-members.ensures in
+    let end : mark ≡ c.in_ok-count.count = omega (arith, count.1, start.1, c.loop-mark.auto.mark-end (omega (arith, count.1, start.1))) in
     let none : length (ls o) - mark ≡ 0 = omega (arith, count.1, end) in
     let all : mark ≡ reached quorum (ls o) c.args.cabinet.now
     = sym (ap (λ n. risen quorum (ls o) lengths n mark) none ∙ risen_none quorum (ls o) lengths mark) ∙ c.loop-mark.invariant.1 in
-    front_ok owners o c.args.cabinet.now.mark ls (record { mark = c.in-ok-count.count; members = c.loop-mark.members }) (rest_at (ls o) (reached quorum (ls o) c.args.cabinet.now))
-    start.0 start.1 (rest_of (ls o) c.in-ok-count.count c.loop-mark.members (reached quorum (ls o) c.args.cabinet.now) (c.loop-mark.invariant.0 ∙ ap (members_before (ls o)) end) (sym end ∙ all))
+    front_ok owners o c.args.cabinet.now.mark ls (record { mark = c.in_ok-count.count; members = c.loop-mark.members }) (rest_at (ls o) (reached quorum (ls o) c.args.cabinet.now))
+    start.0 start.1 (rest_of (ls o) c.in_ok-count.count c.loop-mark.members (reached quorum (ls o) c.args.cabinet.now) (c.loop-mark.invariant.0 ∙ ap (members_before (ls o)) end) (sym end ∙ all))

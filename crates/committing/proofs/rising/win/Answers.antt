@@ -16,9 +16,9 @@ returns g c =
     let quorum : ℕ → ℕ → Bool = g.R.QuorumRule.quorum c.args.rule.now in
     let before : Cabinet = c.args.cabinet.now in
     let leader : Cabinet = leads i (length (ls i)) before in
-    let told = front_tells owners i before.mark ls c.in-ok-elects.field-0 (elected quorum (ls i) before) c.in-ok-elects.ensures in
+    let told = front_tells owners i before.mark ls c.in_ok-elects.field-0 (elected quorum (ls i) before) c.in_ok-elects.ensures in
     let wins : true ≡ elected quorum (ls i) before = sym c.if-not-branch.false ∙ told.2 in
-    let count = length_tells owners i c.in-ok-length.length ls c.in-ok-length.ensures in
+    let count = length_tells owners i c.in_ok-length.length ls c.in_ok-length.ensures in
     let led : c.lead.new.self ≡ leader = c.lead.ensures ∙ ap (λ n. leads i n before) count.1 in
     let committed : after leader (commit_answer owners ls quorum i leader) ≡ committing quorum i (ls i) leader
     = sym (ap (after leader) (front_ok owners i before.mark ls (committing quorum i (ls i) leader) (committing quorum i (ls i) leader) told.0 told.1 refl)) in

@@ -11,6 +11,6 @@ pub loop-p-preserved : goal.loop-p-preserved
 loop-p-preserved g c =
     let ls : ℕ → List Entry = g.J.Journal.lists c.args.journal.now in
     let p = c.loop-p.p in
-    let e : Entry = c.in-ok-entry.entry in
-    let at = entry_tells (g.J.Journal.owners c.args.journal.now) c.args.owner p e ls c.in-ok-entry.ensures in
-    c.choose-last.ensures ∙ ap (λ b. cond b p c.loop-p.last) c.is-configuration.ensures ∙ last_more (ls c.args.owner) p c.loop-p.last e at.1 c.loop-p.invariant
+    let e : Entry = c.in_ok-entry.entry in
+    let at = entry_tells (g.J.Journal.owners c.args.journal.now) c.args.owner p e ls c.in_ok-entry.ensures in
+    c.choose-last.ensures ∙ ap (λ b. cond b p c.loop-p.last) c.is_configuration.ensures ∙ last_more (ls c.args.owner) p c.loop-p.last e at.1 c.loop-p.invariant

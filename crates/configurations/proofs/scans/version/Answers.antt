@@ -11,7 +11,7 @@ pub loop-p-preserved : goal.loop-p-preserved
 loop-p-preserved g c =
     let ls : ℕ → List Entry = g.J.Journal.lists c.args.journal.now in
     let p = c.loop-p.p in
-    let e : Entry = c.in-ok-entry.entry in
-    let at = entry_tells (g.J.Journal.owners c.args.journal.now) c.args.owner p e ls c.in-ok-entry.ensures in
-    let one = c.choose-version.ensures ∙ ap (λ b. cond {A = ℕ} b 1 0) c.is-configuration.ensures in
-    (omega (arith, c.choose-version.ensures, one_most c.is-configuration.result), ap (λ n. c.loop-p.version + n) one ∙ version_more (ls c.args.owner) p c.loop-p.version e at.1 c.loop-p.invariant.1)
+    let e : Entry = c.in_ok-entry.entry in
+    let at = entry_tells (g.J.Journal.owners c.args.journal.now) c.args.owner p e ls c.in_ok-entry.ensures in
+    let one = c.choose-version.ensures ∙ ap (λ b. cond {A = ℕ} b 1 0) c.is_configuration.ensures in
+    (omega (arith, c.choose-version.ensures, one_most c.is_configuration.result), ap (λ n. c.loop-p.version + n) one ∙ version_more (ls c.args.owner) p c.loop-p.version e at.1 c.loop-p.invariant.1)

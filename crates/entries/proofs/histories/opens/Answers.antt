@@ -11,5 +11,5 @@ pub returns-then-bytes-ge16 : goal.returns-then-bytes-ge16
 returns-then-bytes-ge16 c =
     let bs : List ℕ = c.args.bytes.now in
     let some : 0 < length bs / 16 = omega arith in
-    let found = c.is-founding.ensures ∙ ap founding (c.entry-at.ensures ∙ sym (entries_at bs 0 some)) in
+    let found = c.is_founding.ensures ∙ ap founding (c.entry_at.ensures ∙ sym (entries_at bs 0 some)) in
     found ∙ sym (ap (λ (b : Bool). b && founding (get_or (entries_of bs) 0 blank)) (lt-ltb 0 (length (entries_of bs)) (omega (arith, entries_length bs))))

@@ -4,8 +4,8 @@ use Rattle.frames.proofs.reader.read.Given
 use Rattle.frames.proofs.reader.read.Goals as goal
 
 -- the frame lies within the bytes
-within : (g : Given.Over) (c : goal.In-ok-fields g) → 24 + 16 * c.in-ok-fields.fields.count ≤ length c.args.bytes.now
-within g c = shape_within c.args.limit (length c.args.bytes.now) c.in-ok-header.header c.in-ok-fields.fields (sym c.in-ok-fields.ensures)
+within : (g : Given.Over) (c : goal.In-ok-fields g) → 24 + 16 * c.in_ok-fields.fields.count ≤ length c.args.bytes.now
+within g c = shape_within c.args.limit (length c.args.bytes.now) c.in_ok-header.header c.in_ok-fields.fields (sym c.in_ok-fields.ensures)
 
 pub overflow-mul-part : goal.overflow-mul-part
 overflow-mul-part g c = omega (arith, within g c)

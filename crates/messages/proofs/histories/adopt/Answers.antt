@@ -8,21 +8,21 @@ use Rattle.messages.specs.Messages.{adopt_step}
 use Rattle.messages.proofs.Fronts.{replace_fits}
 use Rattle.messages.proofs.histories.adopt.Goals as goal
 
-pub returns-in-err-list-length : goal.returns-in-err-list-length
-returns-in-err-list-length g c =
-    let error = err_from_is_err_and c.from-residual.result c.from-residual.ensures.1 in
+pub returns-in_err-list_length : goal.returns-in_err-list_length
+returns-in_err-list_length g c =
+    let error = err_from_is_err_and c.from_residual.result c.from_residual.ensures.1 in
     let same =
     untouched (g.J.Journal.owners c.args.journal.now) (g.J.Journal.lists c.args.journal.now) c.args.number c.args.cabinet.now (length (g.J.Journal.lists c.args.journal.now c.args.number))
     (adopt_step (g.J.Journal.limit c.args.journal.now) (g.J.Journal.lists c.args.journal.now c.args.number) c.args.cabinet.now c.args.epoch c.args.mark (entries_of c.args.entries.now))
-    c.in-err-list-length.field-0.0 c.from-residual.result (sym c.in-err-list-length.was ∙ c.list-length.ensures) (error.1 ∙ ap (λ (r : Refusal). Err r) error.2) in
+    c.in_err-list_length.field-0.0 c.from_residual.result (sym c.in_err-list_length.was ∙ c.list_length.ensures) (error.1 ∙ ap (λ (r : Refusal). Err r) error.2) in
     record { answer = same.0; «record» = same.1; lists = same.2; owners = refl; limit = refl }
 
 -- the history fits, so no replacement is refused
-pub returns-in-err-replace : goal.returns-in-err-replace
-returns-in-err-replace g c =
+pub returns-in_err-replace : goal.returns-in_err-replace
+returns-in_err-replace g c =
     let owners : ℕ = g.J.Journal.owners c.args.journal.now in
     let ls : ℕ → List Entry = g.J.Journal.lists c.args.journal.now in
     let es : List Entry = entries_of c.args.entries.now in
-    let count = listed_tells owners ls c.args.number c.args.cabinet.now c.in-ok-list-length.field-0 (length (ls c.args.number)) c.in-ok-list-length.ensures in
-    let fits : length es ≤ g.J.Journal.limit c.args.journal.now = omega (arith, c.count-of-count.ensures, c.limit.ensures) in
-    absurd (replace_fits owners (g.J.Journal.limit c.args.journal.now) c.args.number es c.in-err-replace.field-0.0 count.0 fits (sym c.in-err-replace.was ∙ c.replace.ensures.answer))
+    let count = listed_tells owners ls c.args.number c.args.cabinet.now c.in_ok-list_length.field-0 (length (ls c.args.number)) c.in_ok-list_length.ensures in
+    let fits : length es ≤ g.J.Journal.limit c.args.journal.now = omega (arith, c.count_of-count.ensures, c.limit.ensures) in
+    absurd (replace_fits owners (g.J.Journal.limit c.args.journal.now) c.args.number es c.in_err-replace.field-0.0 count.0 fits (sym c.in_err-replace.was ∙ c.replace.ensures.answer))

@@ -15,6 +15,6 @@ loop-k-preserved g c =
     let l : List Entry = ls c.args.owner in
     let es : List Entry = entries_of c.args.entries.now in
     let k : ℕ = c.loop-k.k in
-    let own = entry_tells (g.J.Journal.owners c.args.journal.now) c.args.owner k c.in-ok-own.own ls c.in-ok-own.ensures in
-    let new = place_tells es k c.in-ok-new.new c.in-ok-new.ensures in
-    (omega (arith, c.loop-k-test.true), ap (λ (b : Bool). c.loop-k.same && b) c.is-same-same.ensures ∙ same_more l es k c.loop-k.same c.in-ok-own.own c.in-ok-new.new own.1 new c.loop-k.invariant.1)
+    let own = entry_tells (g.J.Journal.owners c.args.journal.now) c.args.owner k c.in_ok-own.own ls c.in_ok-own.ensures in
+    let new = place_tells es k c.in_ok-new.new c.in_ok-new.ensures in
+    (omega (arith, c.loop-k-test.true), ap (λ (b : Bool). c.loop-k.same && b) c.is_same-same.ensures ∙ same_more l es k c.loop-k.same c.in_ok-own.own c.in_ok-new.new own.1 new c.loop-k.invariant.1)

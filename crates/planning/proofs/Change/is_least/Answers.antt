@@ -3,10 +3,10 @@ use Rattle.std.proofs.lemmas.Bool.{false≢true}
 use Rattle.planning.proofs.Sparing.{spared, least_from, not_least}
 use Rattle.planning.proofs.Change.is_least.Goals as goal
 
-pub returns-then-contains-is-carried : goal.returns-then-contains-is-carried
-returns-then-contains-is-carried g c =
+pub returns-then-contains-is_carried : goal.returns-then-contains-is_carried
+returns-then-contains-is_carried g c =
     let rule = c.args.rule.now in
-    let spare = sym (ap₂ ◌&&◌ c.contains.ensures c.is-carried-in-loop-i.ensures) ∙ c.if-contains-is-carried.true in
+    let spare = sym (ap₂ ◌&&◌ c.contains.ensures c.is_carried-in-loop-i.ensures) ∙ c.if-contains-is_carried.true in
     let none = not_least (g.R.QuorumRule.quorum rule) (g.met.R.QuorumRule.grows rule) c.args.self c.args.set c.loop-i.i (omega arith) spare in
     (λ e. absurd (false≢true e), λ least. absurd (none least))
 

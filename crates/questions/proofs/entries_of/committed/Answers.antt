@@ -19,9 +19,9 @@ returns-then-position-cabinet g c =
     let mark : ℕ = c.args.cabinet.now.mark in
     let entry : Result Entry Refusal = Ok (get_or (ls i) position blank) in
     let below = c.if-position-cabinet.true in
-    let told = asked_tells (codes_of g.K.OrderKind.decode) c.args.cabinets owners (g.J.Journal.limit c.args.journal.now) i (ls i) c.args.cabinet.now (sym c.in-ok-check.ensures) in
+    let told = asked_tells (codes_of g.K.OrderKind.decode) c.args.cabinets owners (g.J.Journal.limit c.args.journal.now) i (ls i) c.args.cabinet.now (sym c.in_ok-check.ensures) in
     c.entry.ensures
     ∙ cond-true _ _ _ (lt-ltb i owners told.0)
     ∙ cond-true _ _ _ (lt-ltb position (length (ls i)) (omega (arith, below, told.1)))
     ∙ sym (cond-true (ltb position mark) entry (Err NoPosition) (lt-ltb position mark below))
-    ∙ ap (λ (r : Result (Unit {0}) Refusal). and_then r (λ _. cond (ltb position mark) entry (Err NoPosition))) c.in-ok-check.ensures
+    ∙ ap (λ (r : Result (Unit {0}) Refusal). and_then r (λ _. cond (ltb position mark) entry (Err NoPosition))) c.in_ok-check.ensures

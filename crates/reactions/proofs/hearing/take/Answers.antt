@@ -20,8 +20,8 @@ returns-in-Candidate g c =
     sym (ap (λ (m : Message). content_step (g.R.QuorumRule.quorum c.args.rule.now) (g.J.Journal.limit c.args.journal.now) c.args.number (g.J.Journal.lists c.args.journal.now c.args.number) c.args.cabinet.now c.args.frame.now.sender c.args.frame.now.epoch (said m)) c.in-Candidate.is) in
     let whole = ap (listed (g.J.Journal.owners c.args.journal.now) (g.J.Journal.lists c.args.journal.now) c.args.number c.args.cabinet.now) meant in
     record {
-      answer = c.take-candidate.ensures.answer ∙ ap said_by whole;
-      «record» = c.take-candidate.ensures.«record» ∙ ap (left_by c.args.cabinet.now) whole;
+      answer = c.take_candidate.ensures.answer ∙ ap said_by whole;
+      «record» = c.take_candidate.ensures.«record» ∙ ap (left_by c.args.cabinet.now) whole;
       lists = read_only (g.J.Journal.owners c.args.journal.now) (g.J.Journal.lists c.args.journal.now) c.args.number c.args.cabinet.now (candidate_step (g.J.Journal.lists c.args.journal.now c.args.number) c.args.cabinet.now c.args.frame.now.epoch c.in-Candidate.accepted c.in-Candidate.length) _ meant (unless_keeps (g.J.Journal.lists c.args.journal.now c.args.number) (not (later (c.args.cabinet.now.accepted, length (g.J.Journal.lists c.args.journal.now c.args.number)) (c.in-Candidate.accepted, c.in-Candidate.length))) VoterAhead _ refl);
       owners = refl;
       limit = refl;
@@ -33,8 +33,8 @@ returns-in-Promise g c =
     sym (ap (λ (m : Message). content_step (g.R.QuorumRule.quorum c.args.rule.now) (g.J.Journal.limit c.args.journal.now) c.args.number (g.J.Journal.lists c.args.journal.now c.args.number) c.args.cabinet.now c.args.frame.now.sender c.args.frame.now.epoch (said m)) c.in-Promise.is) in
     let whole = ap (listed (g.J.Journal.owners c.args.journal.now) (g.J.Journal.lists c.args.journal.now) c.args.number c.args.cabinet.now) meant in
     record {
-      answer = c.take-promise.ensures.answer ∙ ap said_by whole;
-      «record» = c.take-promise.ensures.«record» ∙ ap (left_by c.args.cabinet.now) whole;
+      answer = c.take_promise.ensures.answer ∙ ap said_by whole;
+      «record» = c.take_promise.ensures.«record» ∙ ap (left_by c.args.cabinet.now) whole;
       lists = read_only (g.J.Journal.owners c.args.journal.now) (g.J.Journal.lists c.args.journal.now) c.args.number c.args.cabinet.now (promise_step (g.R.QuorumRule.quorum c.args.rule.now) c.args.number (g.J.Journal.lists c.args.journal.now c.args.number) c.args.cabinet.now c.args.frame.now.sender) _ meant (cond_keeps (g.J.Journal.lists c.args.journal.now c.args.number) (elected (g.R.QuorumRule.quorum c.args.rule.now) (g.J.Journal.lists c.args.journal.now c.args.number) (gathers c.args.frame.now.sender c.args.cabinet.now)) _ _ refl refl);
       owners = refl;
       limit = refl;
@@ -42,16 +42,16 @@ returns-in-Promise g c =
 
 pub returns-in-Entry : goal.returns-in-Entry
 returns-in-Entry g c =
-    let first = ap (λ (e : Entry). entry_step (g.J.Journal.limit c.args.journal.now) (g.J.Journal.lists c.args.journal.now c.args.number) c.args.cabinet.now c.in-Entry.position c.in-Entry.mark e) c.first-entry.ensures in
+    let first = ap (λ (e : Entry). entry_step (g.J.Journal.limit c.args.journal.now) (g.J.Journal.lists c.args.journal.now c.args.number) c.args.cabinet.now c.in-Entry.position c.in-Entry.mark e) c.first_entry.ensures in
     let meant : entry_step (g.J.Journal.limit c.args.journal.now) (g.J.Journal.lists c.args.journal.now c.args.number) c.args.cabinet.now c.in-Entry.position c.in-Entry.mark (get_or (entries_of c.in-Entry.entry.now) 0 blank) ≡ content_step (g.R.QuorumRule.quorum c.args.rule.now) (g.J.Journal.limit c.args.journal.now) c.args.number (g.J.Journal.lists c.args.journal.now c.args.number) c.args.cabinet.now c.args.frame.now.sender c.args.frame.now.epoch (said c.args.frame.now.message) =
     sym (ap (λ (m : Message). content_step (g.R.QuorumRule.quorum c.args.rule.now) (g.J.Journal.limit c.args.journal.now) c.args.number (g.J.Journal.lists c.args.journal.now c.args.number) c.args.cabinet.now c.args.frame.now.sender c.args.frame.now.epoch (said m)) c.in-Entry.is) in
     let whole = ap (listed (g.J.Journal.owners c.args.journal.now) (g.J.Journal.lists c.args.journal.now) c.args.number c.args.cabinet.now) (first ∙ meant) in
     record {
-      answer = c.take-entry.ensures.answer ∙ ap said_by whole;
-      «record» = c.take-entry.ensures.«record» ∙ ap (left_by c.args.cabinet.now) whole;
-      lists = λ p. c.take-entry.ensures.lists p ∙ ap (λ (x : Outcome). lists_by (g.J.Journal.lists c.args.journal.now) c.args.number x p) whole;
-      owners = c.take-entry.ensures.owners;
-      limit = c.take-entry.ensures.limit;
+      answer = c.take_entry.ensures.answer ∙ ap said_by whole;
+      «record» = c.take_entry.ensures.«record» ∙ ap (left_by c.args.cabinet.now) whole;
+      lists = λ p. c.take_entry.ensures.lists p ∙ ap (λ (x : Outcome). lists_by (g.J.Journal.lists c.args.journal.now) c.args.number x p) whole;
+      owners = c.take_entry.ensures.owners;
+      limit = c.take_entry.ensures.limit;
     }
 
 pub returns-in-Acknowledge : goal.returns-in-Acknowledge
@@ -60,8 +60,8 @@ returns-in-Acknowledge g c =
     sym (ap (λ (m : Message). content_step (g.R.QuorumRule.quorum c.args.rule.now) (g.J.Journal.limit c.args.journal.now) c.args.number (g.J.Journal.lists c.args.journal.now c.args.number) c.args.cabinet.now c.args.frame.now.sender c.args.frame.now.epoch (said m)) c.in-Acknowledge.is) in
     let whole = ap (listed (g.J.Journal.owners c.args.journal.now) (g.J.Journal.lists c.args.journal.now) c.args.number c.args.cabinet.now) meant in
     record {
-      answer = c.take-acknowledge.ensures.answer ∙ ap said_by whole;
-      «record» = c.take-acknowledge.ensures.«record» ∙ ap (left_by c.args.cabinet.now) whole;
+      answer = c.take_acknowledge.ensures.answer ∙ ap said_by whole;
+      «record» = c.take_acknowledge.ensures.«record» ∙ ap (left_by c.args.cabinet.now) whole;
       lists = read_only (g.J.Journal.owners c.args.journal.now) (g.J.Journal.lists c.args.journal.now) c.args.number c.args.cabinet.now (acknowledge_step (g.R.QuorumRule.quorum c.args.rule.now) c.args.number (g.J.Journal.lists c.args.journal.now c.args.number) c.args.cabinet.now c.args.frame.now.sender c.in-Acknowledge.length) _ meant (unless_keeps (g.J.Journal.lists c.args.journal.now c.args.number) (leb c.in-Acknowledge.length (length (g.J.Journal.lists c.args.journal.now c.args.number))) TooMuchAcknowledged _ refl);
       owners = refl;
       limit = refl;
@@ -73,8 +73,8 @@ returns-in-Commit g c =
     sym (ap (λ (m : Message). content_step (g.R.QuorumRule.quorum c.args.rule.now) (g.J.Journal.limit c.args.journal.now) c.args.number (g.J.Journal.lists c.args.journal.now c.args.number) c.args.cabinet.now c.args.frame.now.sender c.args.frame.now.epoch (said m)) c.in-Commit.is) in
     let whole = ap (listed (g.J.Journal.owners c.args.journal.now) (g.J.Journal.lists c.args.journal.now) c.args.number c.args.cabinet.now) meant in
     record {
-      answer = c.take-commit.ensures.answer ∙ ap said_by whole;
-      «record» = c.take-commit.ensures.«record» ∙ ap (left_by c.args.cabinet.now) whole;
+      answer = c.take_commit.ensures.answer ∙ ap said_by whole;
+      «record» = c.take_commit.ensures.«record» ∙ ap (left_by c.args.cabinet.now) whole;
       lists = read_only (g.J.Journal.owners c.args.journal.now) (g.J.Journal.lists c.args.journal.now) c.args.number c.args.cabinet.now (commit_step (g.J.Journal.lists c.args.journal.now c.args.number) c.args.cabinet.now c.in-Commit.mark) _ meant (refl);
       owners = refl;
       limit = refl;

@@ -17,8 +17,8 @@ use Rattle.station.proofs.Finishing.{finished}
 use Rattle.station.proofs.Wording.{act_names}
 use Rattle.station.proofs.acting.perform.Goals as goal
 
-pub returns-in-err-check-call : goal.returns-in-err-check-call
-returns-in-err-check-call g c =
+pub returns-in_err-check_call : goal.returns-in_err-check_call
+returns-in_err-check_call g c =
     let table : List Cabinet = c.args.table.now in
     let journal = c.args.journal.now in
     let codes : ℕ → Bool = codes_of g.K.OrderKind.decode in
@@ -27,8 +27,8 @@ returns-in-err-check-call g c =
     let i : ℕ = c.args.number in
     let k : ℕ = c.args.tray in
     let step : Outcome = act_step (kind_of g.K.OrderKind.proper g.K.OrderKind.encode g.K.OrderKind.decode) quorum s.limit (cabinets s) i (s.lists i) (cabinet_at s i) c.args.step.now in
-    let refused = call_refused codes s i k step c.in-err-check-call.field-0.0 (sym c.in-err-check-call.was ∙ c.check-call.ensures) in
-    let error = err_from_is_err_and c.from-residual.result c.from-residual.ensures.1 in
+    let refused = call_refused codes s i k step c.in_err-check_call.field-0.0 (sym c.in_err-check_call.was ∙ c.check_call.ensures) in
+    let error = err_from_is_err_and c.from_residual.result c.from_residual.ensures.1 in
     record {
       answer = error.1 ∙ ap (λ (r : Refusal). Err r) error.2 ∙ sym (ap (answer_by i) refused);
       table = sym (ap (λ (x : Outcome). (station_after s i k x).table) refused);
@@ -38,8 +38,8 @@ returns-in-err-check-call g c =
       trays = sym (ap (λ (x : Outcome). (station_after s i k x).trays) refused);
     }
 
-pub returns-in-err-reply : goal.returns-in-err-reply
-returns-in-err-reply g c =
+pub returns-in_err-reply : goal.returns-in_err-reply
+returns-in_err-reply g c =
     let table : List Cabinet = c.args.table.now in
     let journal = c.args.journal.now in
     let codes : ℕ → Bool = codes_of g.K.OrderKind.decode in
@@ -48,13 +48,13 @@ returns-in-err-reply g c =
     let i : ℕ = c.args.number in
     let k : ℕ = c.args.tray in
     let step : Outcome = act_step (kind_of g.K.OrderKind.proper g.K.OrderKind.encode g.K.OrderKind.decode) quorum s.limit (cabinets s) i (s.lists i) (cabinet_at s i) c.args.step.now in
-    let called-ok = sym c.in-ok-check-call.was ∙ c.check-call.ensures in
+    let called-ok = sym c.in_ok-check_call.was ∙ c.check_call.ensures in
     let tells = called_tells codes s i k called-ok in
     let whole = does_step codes s i k step called-ok in
     let o : Outcome = listed s.owners s.lists i (cabinet_at s i) step in
-    let refused-o = refused_step o c.in-err-reply.field-0.0 (sym c.in-err-reply.was ∙ c.act.ensures.answer) in
+    let refused-o = refused_step o c.in_err-reply.field-0.0 (sym c.in_err-reply.was ∙ c.act.ensures.answer) in
     let refused = whole ∙ refused-o in
-    let error = err_from_is_err_and c.from-residual-in-err-reply.result c.from-residual-in-err-reply.ensures.1 in
+    let error = err_from_is_err_and c.from_residual-in_err-reply.result c.from_residual-in_err-reply.ensures.1 in
     record {
       answer = error.1 ∙ ap (λ (r : Refusal). Err r) error.2 ∙ sym (ap (answer_by i) refused);
       table = same_table table i c.act.new.cabinet (c.act.ensures.«record» ∙ ap (left_by (cabinet_at s i)) refused-o) ∙ sym (ap (λ (x : Outcome). (station_after s i k x).table) refused);
@@ -77,7 +77,7 @@ returns g c =
     let i : ℕ = c.args.number in
     let k : ℕ = c.args.tray in
     let step : Outcome = act_step (kind_of g.K.OrderKind.proper g.K.OrderKind.encode g.K.OrderKind.decode) quorum s.limit (cabinets s) i (s.lists i) (cabinet_at s i) c.args.step.now in
-    let called-ok = sym c.in-ok-check-call.was ∙ c.check-call.ensures in
+    let called-ok = sym c.in_ok-check_call.was ∙ c.check_call.ensures in
     let tells = called_tells codes s i k called-ok in
     let whole = does_step codes s i k step called-ok in
     let o : Outcome = listed s.owners s.lists i (cabinet_at s i) step in
@@ -85,6 +85,6 @@ returns g c =
     let short : length (ls' i) ≤ s.limit = omega (arith, g.J.Journal.laws.within c.act.new.journal i, c.act.ensures.limit) in
     let names = listed_names s.owners s.lists i (cabinet_at s i) step (act_names quorum s.limit i (s.lists i) (cabinet_at s i) (kind_of g.K.OrderKind.proper g.K.OrderKind.encode g.K.OrderKind.decode) (cabinets s) c.args.step.now) in
     let done =
-    finished s i k c.in-ok-reply.reply c.act.new.cabinet (g.J.Journal.owners c.act.new.journal) ls' (omega (arith, tells.is_named.within, tells.is_named.owned, c.act.ensures.owners)) (omega (arith, tells.is_named.limited)) short tells.room
-    o (sym c.in-ok-reply.was ∙ c.act.ensures.answer) c.act.ensures.«record» (c.act.ensures.lists i) names in
+    finished s i k c.in_ok-reply.reply c.act.new.cabinet (g.J.Journal.owners c.act.new.journal) ls' (omega (arith, tells.is_named.within, tells.is_named.owned, c.act.ensures.owners)) (omega (arith, tells.is_named.limited)) short tells.room
+    o (sym c.in_ok-reply.was ∙ c.act.ensures.answer) c.act.ensures.«record» (c.act.ensures.lists i) names in
     ?

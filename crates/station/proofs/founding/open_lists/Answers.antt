@@ -13,17 +13,17 @@ loop-owner-preserved g c =
     let owners : ℕ = g.J.Journal.owners c.loop-owner.journal in
     let there : c.loop-owner.owner < owners = omega (arith, c.requires, c.loop-owner.invariant.2, c.loop-owner-test.true) in (
       omega (arith, c.loop-owner-test.true),
-      λ p. c.open-list.ensures.lists p ∙ one_more (g.J.Journal.lists c.args.journal.now) now c.loop-owner.owner owners c.args.opening there c.loop-owner.invariant.1 p,
-      c.open-list.ensures.owners ∙ c.loop-owner.invariant.2,
-      c.open-list.ensures.limit ∙ c.loop-owner.invariant.3,
+      λ p. c.open_list.ensures.lists p ∙ one_more (g.J.Journal.lists c.args.journal.now) now c.loop-owner.owner owners c.args.opening there c.loop-owner.invariant.1 p,
+      c.open_list.ensures.owners ∙ c.loop-owner.invariant.2,
+      c.open_list.ensures.limit ∙ c.loop-owner.invariant.3,
     )
 
 -- every owner below the number of owners has a list
-pub returns-in-err-open-list : goal.returns-in-err-open-list
-returns-in-err-open-list g c =
+pub returns-in_err-open_list : goal.returns-in_err-open_list
+returns-in_err-open_list g c =
     let owners : ℕ = g.J.Journal.owners c.loop-owner.journal in
     let there : c.loop-owner.owner < owners = omega (arith, c.requires, c.loop-owner.invariant.2, c.loop-owner-test.true) in
-    absurd (owner_there owners c.loop-owner.owner c.in-err-open-list.field-0.0 there (sym c.in-err-open-list.was ∙ c.open-list.ensures.answer))
+    absurd (owner_there owners c.loop-owner.owner c.in_err-open_list.field-0.0 there (sym c.in_err-open_list.was ∙ c.open_list.ensures.answer))
 
 pub returns : goal.returns
 returns g c =

@@ -30,17 +30,17 @@ returns g c =
     let o : ℕ = c.args.owner in
     let position : ℕ = c.args.position in
     let out : List ℕ = c.args.out.now in
-    let e : ListEntry = c.in-ok-entry.entry in
-    let at = entry_tells owners o position e ls c.in-ok-entry.ensures in
-    let owner = (owned_tells owners o _ e (sym c.in-ok-entry.ensures)).0 in
+    let e : ListEntry = c.in_ok-entry.entry in
+    let at = entry_tells owners o position e ls c.in_ok-entry.ensures in
+    let owner = (owned_tells owners o _ e (sym c.in_ok-entry.ensures)).0 in
     let there = entry_there owners o (length out) c.args.sender c.args.epoch position c.args.mark (ls o) owner at.0 in
     let fields : Fields = record { kind = EntryFrame; sender = c.args.sender; count = 1; epoch = c.args.epoch; first = position; second = c.args.mark } in
     let answer : Result ℕ Refusal = spoken_answer (length out) (letter_said c.args.sender c.args.epoch (ls o) (Entry position c.args.mark)) in
-    let bytes : c.bytes-of.result ≡ entry_bytes _ = c.bytes-of.ensures ∙ ap entry_bytes (sym at.1) in
+    let bytes : c.bytes_of.result ≡ entry_bytes _ = c.bytes_of.ensures ∙ ap entry_bytes (sym at.1) in
     record {
-      answer = c.put-if-room.ensures.answer ∙ sym there;
+      answer = c.put_if_room.ensures.answer ∙ sym there;
       buffer =
-          c.put-if-room.ensures.buffer
+          c.put_if_room.ensures.buffer
           ∙ ap (λ (bs : List ℕ). filled_by out ((header_bytes fields ++ take 16 bs) ++ replicate (length out - 40) 0) answer) bytes
           ∙ ap (filled_by out (spoken_into out (letter_said c.args.sender c.args.epoch (ls o) (Entry position c.args.mark)))) (sym there);
     }

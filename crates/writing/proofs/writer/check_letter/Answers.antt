@@ -17,9 +17,9 @@ returns g c =
     let cabinets : ℕ = c.args.cabinets in
     let limit : ℕ = c.args.limit in
     let l : Letter = letter c.args.frame.now in
-    c.check-ranges.ensures
-    ∙ ap (λ (f : Fields). ranges_answer codes cabinets limit f (entries_of c.borrowed.result.now)) c.fields-of-fields.ensures
+    c.check_ranges.ensures
+    ∙ ap (λ (f : Fields). ranges_answer codes cabinets limit f (entries_of c.borrowed.result.now)) c.fields_of-fields.ensures
     ∙ ap (λ (bs : List ℕ). ranges_answer codes cabinets limit (fields_of l) (entries_of bs)) c.borrowed.ensures
     ∙ ap (λ (b : Bool). and_then (fields_answer cabinets limit (fields_of l)) (λ _. unless b FrameField)) (borrowed_fit codes cabinets l.epoch c.args.frame.now.message)
-    ∙ ap (λ (r : Result (Unit {0}) Refusal). and_then r (λ _. ranges_answer codes cabinets limit (fields_of l) (entries_in l.content))) c.in-ok-check-count.ensures
-    ∙ ap (λ (f : Fields). and_then (count_answer limit f) (λ _. ranges_answer codes cabinets limit (fields_of l) (entries_in l.content))) c.fields-of-fields.ensures
+    ∙ ap (λ (r : Result (Unit {0}) Refusal). and_then r (λ _. ranges_answer codes cabinets limit (fields_of l) (entries_in l.content))) c.in_ok-check_count.ensures
+    ∙ ap (λ (f : Fields). and_then (count_answer limit f) (λ _. ranges_answer codes cabinets limit (fields_of l) (entries_in l.content))) c.fields_of-fields.ensures

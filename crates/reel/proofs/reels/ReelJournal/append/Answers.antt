@@ -7,7 +7,7 @@ use Rattle.reel.proofs.reels.ReelJournal.append.Goals as goal
 pub returns : goal.returns
 returns c =
     let s = c.args.self.now in
-    let answered = c.in-ok-length.ensures in
+    let answered = c.in_ok-length.ensures in
     record {
       answer = grind (arith, nat_tests);
       lists = λ p. c.add.ensures.lists p ∙ add_append (owners_of s) (limit_of s) (lists_of s) c.args.owner c.args.entry p;

@@ -7,7 +7,7 @@ use Rattle.reel.proofs.reels.ReelJournal.keep.Goals as goal
 pub returns : goal.returns
 returns c =
     let s = c.args.self.now in
-    let answered = c.in-ok-length.ensures in
+    let answered = c.in_ok-length.ensures in
     let short : c.args.count ≤ length (lists_of s c.args.owner) = grind (arith, nat_tests) in
     record {
       answer = grind (arith, nat_tests);
