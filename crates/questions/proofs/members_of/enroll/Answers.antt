@@ -26,8 +26,8 @@ bounds-list-next c =
     room_left c.args.members c.loop-cabinet.cabinet c.loop-cabinet.next (length c.loop-cabinet.list) c.loop-cabinet.invariant.0 c.loop-cabinet-test.true (sym c.if-not-contains.ensures)
     (omega (arith, c.requires, c.loop-cabinet.auto.list))
 
-pub overflow-add-next : goal.overflow-add-next
-overflow-add-next c = let low : c.loop-cabinet.next < length c.loop-cabinet.list = bounds-list-next c in omega arith
+pub overflow_add-next : goal.overflow_add-next
+overflow_add-next c = let low : c.loop-cabinet.next < length c.loop-cabinet.list = bounds-list-next c in omega arith
 
 pub loop-cabinet-preserved : goal.loop-cabinet-preserved
 loop-cabinet-preserved c =
