@@ -1,5 +1,5 @@
 -- What the steps do to a cabinet's record, apart from its list. Assumes nothing.
-use Rattle.std.specs.Prelude.{ℕ, zero, suc, ◌+◌, ◌^◌, max, Bool, true, false, cond, List, set, replicate, Ok, Err, Result, bit_or, nat_lt, slice_index, slice_set}
+use Rattle.std.specs.Prelude.{ℕ, zero, suc, ◌+◌, ◌^◌, max, Bool, true, false, cond, List, replicate, Ok, Err, Result, bit_or, nat_lt, slice_index, slice_set}
 use Rattle.refusal.specs.declared.Refusal.{Refusal}
 use Rattle.refusal.specs.declared.Refusal.TheVariants.{Stopped, Running}
 use Rattle.cabinet.specs.declared.Cabinet.{Cabinet}

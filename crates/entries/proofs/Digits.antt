@@ -1,8 +1,8 @@
 -- Numbers and their bytes, there and back. Assumes nothing.
-use Rattle.std.proofs.Common.{◌≡◌, ℕ, ◌+◌, ◌*◌, ◌/◌, ◌%◌, ◌<◌, List, [], ◌∷◌, get_or, sym, refl, ap, ◌∙◌, mod-eq_of_lt, arith}
+use Rattle.std.proofs.Common.{◌≡◌, ℕ, ◌+◌, ◌*◌, ◌/◌, ◌%◌, ◌<◌, List, [], ◌∷◌, ap, ◌∙◌, mod-eq_of_lt, arith}
 use native.Mathlib.Nat.{div-div-eq-div-mul}
 use Rattle.std.proofs.lemmas.Nat.{div-mul-add}
-use Rattle.entries.specs.Bytes.{u16_at, u32_at, u64_at, u16_bytes, u32_bytes, u64_bytes}
+use Rattle.entries.specs.Bytes.{u16_bytes, u32_bytes, u64_bytes}
 
 -- two bytes give back their number
 pub u16_back : (n : ℕ) → n < 65536 → n % 256 + n / 256 % 256 * 256 ≡ n

@@ -1,14 +1,12 @@
 -- Lists of entries and their bytes, there and back. Assumes nothing.
-use Rattle.std.proofs.Common.{◌≡◌, ℕ, zero, suc, ◌+◌, ◌-◌, ◌*◌, ◌/◌, ◌^◌, ◌<◌, ◌≤◌, Bool, true, false, cond, ◌&&◌, ltb, leb, List, [], ◌∷◌, ◌++◌, map, length, get_or, take, drop, sym, refl, ap, ◌∙◌, inl, inr, zero-add, mul-suc, add-one, arith, take-add}
-use Rattle.std.specs.List.{range_with_len, between, flat_map}
+use Rattle.std.proofs.Common.{◌≡◌, ℕ, zero, suc, ◌+◌, ◌-◌, ◌*◌, ◌/◌, ◌<◌, ◌≤◌, Bool, true, false, List, [], ◌∷◌, ◌++◌, map, length, get_or, take, drop, sym, refl, ap, ◌∙◌, inl, inr, zero-add, mul-suc, add-one, arith, take-add}
+use Rattle.std.specs.List.{range_with_len, between}
 use Rattle.std.proofs.lemmas.List.FromFn.{map-range_with_len_more}
 use Rattle.std.proofs.lemmas.List.Edits.{length-between}
 use Rattle.std.proofs.lemmas.List.{drop-drop, ext_get_or, flat_map_more, get_or_past, get_or-take, get_or-drop, length-take}
 use Rattle.std.proofs.lemmas.Bool.{cases_lt, cases_Bool, cond-false, and_parts}
 use Rattle.std.proofs.lemmas.Bool.Decides.{nat_tests}
 use Rattle.journal.specs.declared.Entry.{Entry}
-use Rattle.journal.specs.declared.EntryKind.{EntryKind}
-use Rattle.journal.specs.declared.EntryKind.TheVariants.{Configuration, Order}
 use Rattle.journal.specs.Entries.{blank}
 use Rattle.entries.specs.Entries.{spelled, entry_in, entry_at, entries_of, entry_bytes, entries_bytes}
 use Rattle.entries.specs.Histories.{body_fits, entry_fits, goes_on}

@@ -1,5 +1,5 @@
 -- Entries and their bytes, there and back. Assumes nothing.
-use Rattle.std.proofs.Common.{◌≡◌, ℕ, ◌+◌, ◌-◌, ◌*◌, ◌/◌, ◌<◌, ◌≤◌, Bool, true, false, cond, ◌&&◌, eqb, List, [], ◌∷◌, ◌++◌, length, get_or, sym, refl, ap, ◌∙◌, inl, inr, arith}
+use Rattle.std.proofs.Common.{◌≡◌, ℕ, ◌<◌, ◌≤◌, true, List, [], ◌∷◌, ◌++◌, length, get_or, sym, refl, ap, ◌∙◌, inl, inr, arith}
 use Rattle.std.proofs.lemmas.List.FromFn.{fill_by_all}
 use Rattle.std.proofs.lemmas.Bool.{cond-true, cases_eq, ne_eqb}
 use Rattle.std.proofs.lemmas.Bool.Decides.{nat_tests}
@@ -7,7 +7,7 @@ use Rattle.journal.specs.declared.Entry.{Entry}
 use Rattle.journal.specs.declared.EntryKind.{EntryKind}
 use Rattle.journal.specs.declared.EntryKind.TheVariants.{Configuration, Order}
 use Rattle.journal.specs.Entries.{kind_number, blank}
-use Rattle.entries.specs.Bytes.{u32_at, u64_at, u32_bytes, u64_bytes}
+use Rattle.entries.specs.Bytes.{u32_at, u64_at}
 use Rattle.entries.specs.Entries.{kind_numbered, spelled, entry_in, entry_bytes}
 use Rattle.entries.proofs.Digits.{u32_back, u64_back, u32_again, u64_again}
 

@@ -1,11 +1,9 @@
 -- What a header whose shape was accepted is known to be. Assumes nothing.
-use Rattle.std.proofs.Common.{◌≡◌, ℕ, ◌+◌, ◌*◌, ◌≤◌, Ok, Err, Result, arith}
+use Rattle.std.proofs.Common.{◌≡◌, ℕ, ◌+◌, ◌*◌, ◌≤◌, Ok, arith}
 use Rattle.std.proofs.lemmas.Bool.Decides.{nat_tests}
-use Rattle.refusal.specs.declared.Refusal.{Refusal}
-use Rattle.frames.specs.declared.FrameKind.{FrameKind}
 use Rattle.frames.specs.declared.Header.{Header}
 use Rattle.frames.specs.declared.Fields.{Fields}
-use Rattle.frames.specs.Fields.{shape_answer, kind_numbered}
+use Rattle.frames.specs.Fields.{shape_answer}
 
 -- its frame lies within the bytes
 pub shape_within : (limit room : ℕ) (h : Header) (f : Fields) → shape_answer limit room h ≡ Ok f → 24 + 16 * f.count ≤ room

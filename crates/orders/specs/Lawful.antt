@@ -1,5 +1,5 @@
 -- The laws of both kinds of order, proved. Assumes nothing.
-use Rattle.std.specs.Prelude.{◌≡◌, ◌+◌, ◌*◌, ◌<◌, ◌^◌, true}
+use Rattle.std.specs.Prelude.{◌^◌}
 use Rattle.std.specs.Int.{w32}
 use Rattle.std.proofs.Common.{ap, sym, ◌∙◌, arith, rules}
 use Rattle.std.proofs.lemmas.Nat.{mod_below, pow_pos}

@@ -1,9 +1,9 @@
 -- Weights within groups, and the groups that a set wins. Assumes nothing.
-use Rattle.std.specs.Prelude.{◌≡◌, ℕ, ◌*◌, ◌<◌, ◌≤◌, Bool, true, ◌&&◌, bit_and, nat_lt, slice_index}
+use Rattle.std.specs.Prelude.{◌≡◌, ℕ, ◌*◌, ◌≤◌, Bool, true, ◌&&◌, bit_and, nat_lt, slice_index}
 use Rattle.std.proofs.Common.{ap, arith}
 use Rattle.std.proofs.lemmas.Bool.{and_parts, and_from, lt-ltb, ltb-true}
 use Rattle.quorum.specs.GroupRule.{belongs, weight_in, counts, won}
-use Rattle.quorum.specs.Sets.{has, weigh}
+use Rattle.quorum.specs.Sets.{has}
 use Rattle.quorum.specs.declared.Groups.{Groups}
 use Rattle.quorum.specs.Masks.{in_and, and_again, and_grows}
 use Rattle.quorum.specs.Weighing.{weigh_same, weigh_mono, weigh_share}

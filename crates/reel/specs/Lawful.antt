@@ -1,7 +1,7 @@
 -- That a reel is a journal. Assumes nothing.
 use Rattle.std.specs.Prelude.{◌≡◌, ℕ, ◌+◌, ◌*◌, ◌≤◌, Bool, true, false, cond, ◌&&◌, [], length, Ok, Err, nat_le, nat_lt, refl}
 use Rattle.std.proofs.Common.{zero-le, arith}
-use Rattle.std.proofs.lemmas.Bool.{and_parts, leb-true, ltb-true, le-ltb, cond_both, cond-false}
+use Rattle.std.proofs.lemmas.Bool.{and_parts, leb-true, le-ltb, cond_both, cond-false}
 use Rattle.refusal.specs.declared.Refusal.TheVariants.{OutOfBounds, NoTray}
 use Rattle.journal.specs.Lists.{Laws}
 use Rattle.journal.specs.Makes.{in_bounds, made_owners, made_limit}

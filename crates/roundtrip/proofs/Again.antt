@@ -1,12 +1,12 @@
 -- An accepted frame, written again. Assumes nothing.
-use Rattle.std.proofs.Common.{◌≡◌, ℕ, zero, suc, ◌+◌, ◌-◌, ◌*◌, ◌/◌, ◌<◌, ◌≤◌, Bool, true, false, cond, ◌&&◌, eqb, ltb, leb, List, [], ◌∷◌, ◌++◌, length, get_or, take, drop, Ok, Err, Result, sym, refl, ap, ◌∙◌, arith, take-add}
+use Rattle.std.proofs.Common.{◌≡◌, ℕ, zero, suc, ◌+◌, ◌-◌, ◌*◌, ◌/◌, ◌<◌, ◌≤◌, Bool, true, false, cond, ◌&&◌, eqb, ltb, List, [], ◌∷◌, ◌++◌, length, get_or, take, drop, Ok, Err, Result, sym, refl, ap, ◌∙◌, arith, take-add}
 use Rattle.std.proofs.lemmas.List.FromFn.{fill_by_all}
 use Rattle.std.proofs.lemmas.List.Edits.{length-between}
 use Rattle.std.proofs.lemmas.List.{take_rest, take_all, get_or-drop, get_or-take, length-drop, length-take-le, nil_from_length}
 use Rattle.std.proofs.lemmas.Bool.{and_parts, eqb-true, ltb-false, le-leb}
 use Rattle.std.proofs.lemmas.Bool.Decides.{nat_tests}
 use Rattle.refusal.specs.declared.Refusal.{Refusal}
-use Rattle.refusal.specs.declared.Refusal.TheVariants.{FrameShort, FrameShape, FrameField, OutOfBounds, NoTray, FrameKind as BadKind}
+use Rattle.refusal.specs.declared.Refusal.TheVariants.{FrameShort, FrameShape, FrameField, OutOfBounds, NoTray}
 use Rattle.journal.specs.declared.Entry.{Entry as ListEntry}
 use Rattle.journal.specs.Entries.{blank}
 use Rattle.frames.specs.declared.FrameKind.{FrameKind}
@@ -23,7 +23,7 @@ use Rattle.entries.proofs.ListTrips.{entries_again, goes_on_each, part_small}
 use Rattle.refusal.specs.Answers.{and_then, unless}
 use Rattle.frames.specs.Fields.{bounds_fit, kind_number, kind_numbered, count_fits, numbers_fit, fields_fit, zeros_in, numbers_of, header_of, shape_answer, behind}
 use Rattle.frames.specs.Letters.{Letter, fields_of, letter_of, content_of, entries_in, entries_fit, ranges_answer, letter_answer, frame_length, header_bytes, frame_bytes}
-use Rattle.frames.specs.Reading.{decode, part_of}
+use Rattle.frames.specs.Reading.{part_of}
 use Rattle.frames.proofs.Chains.{checked, and_then_ok, unless_ok, ok_unless}
 use Rattle.writing.specs.Writing.{room_answer, write_answer}
 use Rattle.roundtrip.specs.Trips.{WritesBack}

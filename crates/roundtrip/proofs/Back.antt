@@ -1,6 +1,5 @@
 -- A letter's frame, read again. Assumes nothing.
-use Rattle.std.proofs.Common.{◌≡◌, ℕ, zero, suc, ◌+◌, ◌-◌, ◌*◌, ◌/◌, ◌%◌, ◌^◌, ◌<◌, ◌≤◌, Bool, true, false, cond, ◌&&◌, eqb, ltb, leb, List, [], ◌∷◌, ◌++◌, length, get_or, take, drop, Ok, Err, Result, sym, refl, ap, ◌∙◌, append_assoc, arith}
-use Rattle.std.specs.List.{between}
+use Rattle.std.proofs.Common.{◌≡◌, ℕ, zero, suc, ◌+◌, ◌-◌, ◌*◌, ◌<◌, ◌≤◌, Bool, true, cond, ◌&&◌, eqb, ltb, List, ◌∷◌, ◌++◌, length, get_or, take, Ok, Err, Result, refl, ap, ◌∙◌, arith}
 use Rattle.std.proofs.lemmas.List.{take_rest, take_at, length-append}
 use Rattle.std.proofs.lemmas.Bool.{le-ltb, le-leb, eq-eqb, and_parts, eqb-true, ltb-true, cond-true, cond-false}
 use Rattle.std.proofs.lemmas.Bool.Decides.{nat_tests}
@@ -22,11 +21,10 @@ use Rattle.entries.proofs.Digits.{u16_back, u32_back}
 use Rattle.entries.proofs.Trips.{FitsFields}
 use Rattle.entries.proofs.ListTrips.{bytes_length, entries_back, goes_on_each}
 use Rattle.refusal.specs.Answers.{and_then, unless}
-use Rattle.frames.specs.Fields.{bounds_fit, bounds_answer, kind_number, kind_numbered, count_fits, numbers_fit, fields_fit, zeros_in, numbers_of, header_of, shape_answer}
-use Rattle.frames.specs.Letters.{Letter, Content, candidate, promise, history, entry, acknowledge, commit, fields_of, letter_of, carried, content_of, entries_in, entries_fit, ranges_answer, frame_length, header_bytes, frame_bytes}
+use Rattle.frames.specs.Fields.{bounds_fit, kind_number, kind_numbered, count_fits, numbers_fit, fields_fit, zeros_in, numbers_of, header_of, shape_answer}
+use Rattle.frames.specs.Letters.{Letter, Content, candidate, promise, history, entry, acknowledge, commit, fields_of, letter_of, carried, content_of, entries_in, entries_fit, ranges_answer, frame_length, header_bytes}
 use Rattle.frames.specs.Reading.{decode, part_of}
 use Rattle.frames.proofs.Chains.{ok_unless}
-use Rattle.writing.specs.Writing.{write_answer}
 use Rattle.writing.proofs.Sent.{sent}
 use Rattle.roundtrip.specs.Trips.{ReadsBack}
 

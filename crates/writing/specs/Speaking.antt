@@ -4,7 +4,6 @@ use Rattle.refusal.specs.declared.Refusal.{Refusal}
 use Rattle.journal.specs.declared.Entry.{Entry as ListEntry}
 use Rattle.journal.specs.Entries.{blank}
 use Rattle.frames.specs.Letters.{Letter, Content, candidate, promise, history, entry, acknowledge, commit, fields_of, frame_length, frame_bytes}
-use Rattle.cabinet.specs.declared.Cabinet.{Cabinet}
 use Rattle.cabinet.specs.declared.Reply.{Reply}
 use Rattle.cabinet.specs.declared.Reply.TheVariants.{Nothing, Candidate, Promise, History, Entry, Acknowledge, Commit}
 use Rattle.cabinet.specs.Steps.{Step, Outcome}

@@ -1,4 +1,4 @@
-use Rattle.std.proofs.Common.{◌≡◌, ℕ, ◌+◌, ◌*◌, ◌%◌, ◌^◌, sym, ap, ◌∙◌, pow-suc, add-one, arith}
+use Rattle.std.proofs.Common.{◌≡◌, ◌+◌, ◌*◌, ◌^◌, sym, ap, ◌∙◌, pow-suc, add-one, arith}
 use Rattle.std.proofs.lemmas.Nat.{one_shl}
 use Rattle.cabinet.proofs.Sixteen.{holders_none, holders_more}
 use Rattle.cabinet.proofs.Cabinet.holders.Goals as goal

@@ -1,4 +1,4 @@
-use Rattle.std.proofs.Common.{◌≡◌, ℕ, suc, ◌+◌, ◌-◌, ◌≤◌, Bool, true, false, List, length, sym, refl, ap, ◌∙◌, arith}
+use Rattle.std.proofs.Common.{◌≡◌, ℕ, suc, ◌+◌, ◌-◌, Bool, true, false, List, length, sym, refl, ap, ◌∙◌, arith}
 use Rattle.journal.specs.declared.Entry.{Entry}
 use Rattle.cabinet.specs.Records.{holders_below}
 use Rattle.entries.proofs.Journals.{length_tells, entry_tells}

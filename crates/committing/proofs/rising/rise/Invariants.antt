@@ -1,4 +1,4 @@
-use Rattle.std.proofs.Common.{◌≡◌, ◌-◌, ◌≤◌, length}
+use Rattle.std.proofs.Common.{◌≡◌, ◌-◌, length}
 use Rattle.configurations.specs.Configurations.{members_before}
 use Rattle.committing.specs.Committing.{risen, reached}
 use Rattle.committing.proofs.rising.rise.Given as goal

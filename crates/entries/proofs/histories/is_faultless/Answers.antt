@@ -1,6 +1,5 @@
-use Rattle.std.proofs.Common.{◌≡◌, ℕ, ◌<◌, ◌≤◌, List, length, sym, ap, ◌∙◌, arith}
+use Rattle.std.proofs.Common.{ℕ, ◌<◌, ◌≤◌, List, length, sym, ◌∙◌, arith}
 use Rattle.std.proofs.lemmas.Bool.{and_from, and_right}
-use Rattle.journal.specs.declared.Entry.{Entry}
 use Rattle.entries.specs.Entries.{entries_of}
 use Rattle.entries.specs.Histories.{codes_of, opens, goes_on}
 use Rattle.entries.proofs.Places.{entries_length, entries_at, goes_on_more, goes_on_not, goes_on_all}

@@ -1,6 +1,6 @@
-use Rattle.std.proofs.Common.{◌≡◌, ◌&&◌, sym, refl, ◌∙◌, ap₂, arith, below_more}
+use Rattle.std.proofs.Common.{◌&&◌, sym, refl, ◌∙◌, ap₂, arith, below_more}
 use Rattle.std.proofs.lemmas.Bool.{false≢true}
-use Rattle.planning.proofs.Sparing.{spared, least_from, not_least}
+use Rattle.planning.proofs.Sparing.{least_from, not_least}
 use Rattle.planning.proofs.Change.is_least.Goals as goal
 
 pub returns-then-contains-is_carried : goal.returns-then-contains-is_carried

@@ -1,5 +1,4 @@
 use Rattle.std.proofs.Common.{◌≡◌, ℕ, ◌+◌, ◌-◌, ◌*◌, List, ◌++◌, length, replicate, sym, refl, ap, ◌∙◌}
-use Rattle.journal.specs.declared.Entry.{Entry}
 use Rattle.entries.specs.Entries.{entries_bytes}
 use Rattle.entries.proofs.ListTrips.{bytes_length}
 use Rattle.frames.specs.Letters.{header_bytes}

@@ -1,10 +1,9 @@
-use Rattle.std.proofs.Common.{◌≡◌, ℕ, ◌-◌, ◌<◌, List, ◌++◌, length, take, replicate, Ok, Err, Result, sym, refl, ap, ◌∙◌}
+use Rattle.std.proofs.Common.{◌≡◌, ℕ, ◌-◌, ◌<◌, List, ◌++◌, length, take, replicate, Result, sym, ap, ◌∙◌}
 use Rattle.std.proofs.lemmas.Bool.{cond-true, lt-ltb}
 use Rattle.refusal.specs.declared.Refusal.{Refusal}
 use Rattle.refusal.specs.declared.Refusal.TheVariants.{NoPosition}
-use Rattle.refusal.specs.Answers.{and_then, unless}
+use Rattle.refusal.specs.Answers.{and_then}
 use Rattle.journal.specs.declared.Entry.{Entry as ListEntry}
-use Rattle.journal.specs.Lists.{entry_answer}
 use Rattle.cabinet.specs.declared.Reply.TheVariants.{Entry}
 use Rattle.entries.specs.Entries.{entry_bytes}
 use Rattle.entries.proofs.Journals.{entry_tells, owned_tells}

@@ -1,4 +1,4 @@
-use Rattle.std.proofs.Common.{◌≡◌, ℕ, ◌≤◌, List, length, sym, arith}
+use Rattle.std.proofs.Common.{ℕ, List, sym, arith}
 use Rattle.std.proofs.lemmas.Bool.{leb-true}
 use Rattle.journal.specs.declared.Entry.{Entry}
 use Rattle.entries.proofs.Journals.{length_tells}
