@@ -1,7 +1,7 @@
 -- What entering an entry comes to, where there is room and where there is none. Assumes nothing.
-use Rattle.std.proofs.Common.{◌≡◌, ℕ, ◌+◌, ◌<◌, ◌≤◌, Bool, cond, ◌&&◌, eqb, ltb, List, [], ◌∷◌, ◌++◌, length, Ok, Err, Result, sym, ap, ◌∙◌, ap₂, arith}
+use Rattle.std.proofs.Common.{◌≡◌, ℕ, ◌+◌, ◌<◌, ◌≤◌, Bool, cond, ◌&&◌, eqb, ltb, List, [], ◌∷◌, ◌++◌, length, Ok, Err, sym, ap, ◌∙◌, ap₂, arith}
 use Rattle.std.proofs.lemmas.List.{length_push}
-use Rattle.std.proofs.lemmas.Bool.{cond-true, cond-false, lt-ltb, le-ltb, and_from, and_right}
+use Rattle.std.proofs.lemmas.Bool.{cond-true, cond-false, lt-ltb, le-ltb, and_right}
 use Rattle.std.proofs.lemmas.Bool.Decides.{nat_tests}
 use Rattle.refusal.specs.declared.Refusal.{Refusal}
 use Rattle.refusal.specs.declared.Refusal.TheVariants.{Full}
@@ -10,7 +10,7 @@ use Rattle.journal.specs.Lists.{append_answer, append_lists}
 use Rattle.cabinet.specs.declared.Cabinet.{Cabinet}
 use Rattle.cabinet.specs.declared.Reply.TheVariants.{Entry as Entered}
 use Rattle.cabinet.specs.Records.{raised}
-use Rattle.cabinet.specs.Steps.{Step, Outcome, leaves, listed, lists_by}
+use Rattle.cabinet.specs.Steps.{Step, Outcome, leaves, listed}
 use Rattle.cabinet.proofs.Listed.{listed_ok}
 use Rattle.configurations.proofs.Passes.{front_ok}
 use Rattle.committing.specs.Committing.{committing, commit_answer}

@@ -7,7 +7,6 @@ use Rattle.journal.specs.declared.Entry.{Entry}
 use Rattle.journal.specs.declared.EntryKind.TheVariants.{Configuration, Order}
 use Rattle.entries.specs.Histories.{names_members}
 use Rattle.cabinet.specs.declared.Cabinet.{Cabinet}
-use Rattle.cabinet.specs.declared.Reply.{Reply}
 use Rattle.cabinet.specs.declared.Reply.TheVariants.{Candidate, History, Entry as Entered}
 use Rattle.cabinet.specs.Epochs.{epoch_answer}
 use Rattle.cabinet.specs.Records.{stands, raised, holders}

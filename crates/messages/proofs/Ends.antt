@@ -1,10 +1,9 @@
 -- What an entry at the end of a list comes to. Assumes nothing.
-use Rattle.std.proofs.Common.{◌≡◌, ℕ, ◌+◌, ◌<◌, ◌≤◌, cond, ltb, List, [], ◌∷◌, ◌++◌, length, Ok, Err, ◌∙◌}
+use Rattle.std.proofs.Common.{◌≡◌, ℕ, ◌<◌, ◌≤◌, cond, ltb, List, [], ◌∷◌, ◌++◌, length, Err, ◌∙◌}
 use Rattle.std.proofs.lemmas.Bool.{cond-true, cond-false, lt-ltb, le-ltb}
 use Rattle.refusal.specs.declared.Refusal.TheVariants.{Gap, Full}
 use Rattle.journal.specs.declared.Entry.{Entry}
 use Rattle.cabinet.specs.declared.Cabinet.{Cabinet}
-use Rattle.cabinet.specs.Steps.{Outcome}
 use Rattle.messages.specs.Messages.{goes_on_with, entry_step}
 
 module _ (limit : ℕ) (l : List Entry) (c : Cabinet) (position mark : ℕ) (e : Entry) (past : length l ≤ position) (up : position ≤ length l) where

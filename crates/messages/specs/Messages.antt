@@ -1,12 +1,12 @@
 -- What each content of a letter does to one cabinet: its record, its list, and what the cabinet says then. Assumes nothing.
-use Rattle.std.specs.Prelude.{ℕ, zero, suc, ◌+◌, min, max, Bool, true, cond, not, ◌&&◌, ◌||◌, List, [], ◌∷◌, ◌++◌, length, Ok, Err, ◌==◌, nat_le, nat_lt, slice_index_or}
+use Rattle.std.specs.Prelude.{ℕ, zero, suc, min, max, Bool, true, cond, not, ◌&&◌, ◌||◌, List, [], ◌∷◌, ◌++◌, length, Ok, Err, ◌==◌, nat_le, nat_lt, slice_index_or}
 use Rattle.refusal.specs.declared.Refusal.TheVariants.{FrameField, Gap, Full, CommittedAltered, TooMuchAcknowledged, VoterAhead}
 use Rattle.refusal.specs.Answers.{and_then, unless}
 use Rattle.journal.specs.declared.Entry.{Entry}
 use Rattle.journal.specs.Entries.{kind_number, blank}
 use Rattle.cabinet.specs.declared.Cabinet.{Cabinet}
 use Rattle.cabinet.specs.declared.Reply.{Reply}
-use Rattle.cabinet.specs.declared.Reply.TheVariants.{Nothing, Promise, History, Acknowledge, Commit}
+use Rattle.cabinet.specs.declared.Reply.TheVariants.{Nothing, Promise, Acknowledge, Commit}
 use Rattle.cabinet.specs.Epochs.{later}
 use Rattle.cabinet.specs.Records.{promises, gathers, raised, marked, none_acknowledged}
 use Rattle.cabinet.specs.Steps.{Step, leaves, Outcome}

@@ -1,12 +1,12 @@
 -- Steps that keep a cabinet's list. Assumes nothing.
-use Rattle.std.proofs.Common.{◌≡◌, ℕ, Bool, true, false, cond, eqb, ltb, leb, List, length, Ok, Err, Result, sym, refl, ap, ◌∙◌, inl, inr, arith}
+use Rattle.std.proofs.Common.{◌≡◌, ℕ, Bool, true, false, cond, eqb, ltb, leb, List, length, Ok, Err, refl, ap, ◌∙◌, arith}
 use Rattle.std.proofs.lemmas.Bool.Decides.{nat_tests}
 use Rattle.refusal.specs.declared.Refusal.{Refusal}
 use Rattle.refusal.specs.declared.Refusal.TheVariants.{NoCabinet, NoPosition}
 use Rattle.refusal.specs.Answers.{and_then, unless}
 use Rattle.journal.specs.declared.Entry.{Entry}
 use Rattle.cabinet.specs.declared.Cabinet.{Cabinet}
-use Rattle.cabinet.specs.Steps.{Step, Outcome, left_by, listed, lists_by, said_by}
+use Rattle.cabinet.specs.Steps.{Step, Outcome, listed, lists_by}
 
 -- where the step is accepted, its list is this one
 abbrev pub Keeps : List Entry → Outcome → Type 0

@@ -1,5 +1,5 @@
 -- What is written after a step. Assumes nothing.
-use Rattle.std.proofs.Common.{◌≡◌, ℕ, ◌+◌, ◌*◌, ◌<◌, ◌≤◌, Bool, true, cond, eqb, ltb, leb, List, length, Ok, Err, Option, Result, sym, refl, ap, ◌∙◌, ap₂, arith}
+use Rattle.std.proofs.Common.{◌≡◌, ℕ, ◌<◌, ◌≤◌, Bool, true, eqb, ltb, List, length, Ok, Err, Option, Result, sym, refl, ap, ◌∙◌, ap₂, arith}
 use Rattle.std.proofs.lemmas.Bool.{cond-true, lt-ltb, le-leb, eq-eqb}
 use Rattle.refusal.specs.declared.Refusal.{Refusal}
 use Rattle.refusal.specs.declared.Refusal.TheVariants.{NoCabinet, NoTray, NoPosition}
@@ -8,7 +8,7 @@ use Rattle.journal.specs.declared.Entry.{Entry as ListEntry}
 use Rattle.cabinet.specs.declared.Cabinet.{Cabinet}
 use Rattle.cabinet.specs.declared.Reply.{Reply}
 use Rattle.cabinet.specs.declared.Reply.TheVariants.{Nothing, Candidate, Promise, History, Entry, Acknowledge, Commit}
-use Rattle.cabinet.specs.Steps.{Step, Outcome, left_by, lists_by, said_by}
+use Rattle.cabinet.specs.Steps.{Outcome, left_by, lists_by, said_by}
 use Rattle.frames.specs.Letters.{Letter}
 use Rattle.writing.specs.Speaking.{letter_said, letter_after, spoken_length, spoken_into, answer_by, buffer_by}
 use Rattle.writing.specs.Replies.{has_named, spoken_answer, reply_answer}

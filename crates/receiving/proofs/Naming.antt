@@ -8,7 +8,6 @@ use Rattle.frames.specs.Letters.{Letter, Content, candidate, promise, history, e
 use Rattle.frames.specs.Reading.{decode}
 use Rattle.writing.specs.Replies.{has_named}
 use Rattle.cabinet.specs.declared.Cabinet.{Cabinet}
-use Rattle.cabinet.specs.declared.Reply.{Reply}
 use Rattle.cabinet.specs.declared.Reply.TheVariants.{Nothing, Promise, Commit}
 use Rattle.cabinet.specs.Steps.{Step, Outcome, leaves, listed}
 use Rattle.cabinet.specs.Records.{promises, gathers, raised}

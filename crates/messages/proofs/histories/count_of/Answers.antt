@@ -1,4 +1,4 @@
-use Rattle.std.proofs.Common.{◌≡◌, sym}
+use Rattle.std.proofs.Common.{sym}
 use Rattle.entries.proofs.Places.{entries_length}
 use Rattle.messages.proofs.histories.count_of.Goals as goal
 

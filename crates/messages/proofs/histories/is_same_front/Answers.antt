@@ -1,6 +1,5 @@
-use Rattle.std.proofs.Common.{◌≡◌, ℕ, ◌<◌, Bool, ◌&&◌, List, length, get_or, sym, ap, ◌∙◌, arith}
+use Rattle.std.proofs.Common.{ℕ, Bool, ◌&&◌, List, ap, ◌∙◌, arith}
 use Rattle.journal.specs.declared.Entry.{Entry}
-use Rattle.journal.specs.Entries.{blank}
 use Rattle.entries.specs.Entries.{entries_of}
 use Rattle.entries.proofs.Journals.{entry_tells}
 use Rattle.messages.proofs.Fronts.{same_none, same_more, place_tells}

@@ -1,4 +1,4 @@
-use Rattle.std.proofs.Common.{◌≡◌, ℕ, Bool, cond, ltb, List, length, get_or, Ok, Err, Result, sym, ap, ◌∙◌, arith}
+use Rattle.std.proofs.Common.{ℕ, cond, ltb, List, length, get_or, Ok, Err, Result, sym, ap, ◌∙◌, arith}
 use Rattle.std.proofs.lemmas.Bool.{cond-true, lt-ltb}
 use Rattle.refusal.specs.declared.Refusal.{Refusal}
 use Rattle.refusal.specs.declared.Refusal.TheVariants.{NoPosition}
@@ -6,7 +6,6 @@ use Rattle.refusal.specs.Answers.{and_then}
 use Rattle.journal.specs.declared.Entry.{Entry}
 use Rattle.journal.specs.Entries.{blank}
 use Rattle.entries.specs.Histories.{codes_of}
-use Rattle.questions.specs.Questions.{asked}
 use Rattle.questions.proofs.Asking.{asked_tells}
 use Rattle.questions.proofs.entries_of.committed.Goals as goal
 
