@@ -12,7 +12,7 @@ use Rattle.cabinet.specs.Records.{stands, promises}
 use Rattle.cabinet.specs.Steps.{Step, leaves}
 use Rattle.configurations.specs.Configurations.{in_play}
 use Rattle.acts.specs.Acts.{stood, stand_step, refresh_step, says_history, enter_step, entered, submit_step, order_entry, change_checks, change_step, members_entry}
-use Rattle.messages.specs.Messages.{candidate_step, history_step, adopt_step, entry_step, keeps_committed, follows_with, goes_on_with, accepts}
+use Rattle.messages.specs.Messages.{candidate_step, history_step, entry_step, keeps_committed, follows_with, goes_on_with, accepts}
 
 -- a refusal is no step
 never : {A : Type 0} (e : Refusal) (s : A) → Err e ≡ Ok s → ⊥

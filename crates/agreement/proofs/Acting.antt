@@ -5,7 +5,7 @@ use Rattle.quorum.specs.Sets.{has}
 use Rattle.journal.specs.declared.Entry.{Entry}
 use Rattle.cabinet.specs.declared.Cabinet.{Cabinet}
 use Rattle.cabinet.specs.Epochs.{owner_of}
-use Rattle.cabinet.specs.Records.{follows, promises, stands, gathers, raised, leads, marked, only, none_acknowledged}
+use Rattle.cabinet.specs.Records.{follows, promises, gathers, raised, leads, marked, only, none_acknowledged}
 use Rattle.configurations.specs.Configurations.{configures, members_at, members_before}
 use Rattle.agreement.proofs.Prefix.{Agree, agree_refl, agree_sym, agree_down, agree_on, agree_at}
 use Rattle.agreement.proofs.Ghost.{Ghost, Cover, Follows, Holds, Vote, Winner, Event, Origin, Entries, Inv}

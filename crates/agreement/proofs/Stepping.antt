@@ -17,7 +17,7 @@ use Rattle.cabinet.specs.Records.{follows, stands, gathers, raised, marked, hold
 use Rattle.cabinet.specs.Steps.{Step, leaves, Outcome}
 use Rattle.configurations.specs.Configurations.{members_before}
 use Rattle.committing.specs.Committing.{reached, committing, winning, elected}
-use Rattle.acts.specs.Acts.{stood, stand_step, refresh_step, says_history, entered}
+use Rattle.acts.specs.Acts.{stand_step, refresh_step, says_history, entered}
 use Rattle.messages.specs.Messages.{candidate_step, counted, promise_step, history_step, entry_step, acknowledge_step, commit_step, told_mark, says_commit}
 use Rattle.reactions.specs.Reactions.{content_step, addressed, timely, expected, admitted, react}
 use Rattle.writing.specs.Speaking.{letter_by, letter_said, letter_after}

@@ -1,11 +1,10 @@
 -- The calls on a station: the order of their checks, and what they do. Assumes nothing.
-use Rattle.std.specs.Prelude.{ℕ, Bool, not, List, Ok, Err, Option, Result, ◌==◌, slice_index}
+use Rattle.std.specs.Prelude.{ℕ, Bool, not, Ok, Option, Result, ◌==◌, slice_index}
 use Rattle.refusal.specs.declared.Refusal.{Refusal}
 use Rattle.refusal.specs.declared.Refusal.TheVariants.{EmptyTray}
 use Rattle.refusal.specs.Answers.{and_then, unless}
 use Rattle.orders.specs.Kinds.{code_answer}
 use Rattle.entries.specs.Histories.{codes_of}
-use Rattle.journal.specs.declared.Entry.{Entry}
 use Rattle.cabinet.specs.declared.Cabinet.{Cabinet}
 use Rattle.cabinet.specs.declared.Reply.TheVariants.{Nothing}
 use Rattle.cabinet.specs.Records.{stop_step, start_step}
