@@ -22,6 +22,11 @@ trays_said : (s : Station) (k : ℕ) (t : Option Letter) → tray_start s k + tr
 trays_said s k None room = over_same s.trays (tray_start s k) (tray_length s.limit) room
 trays_said s k (Some t) room = refl
 
+-- the lists that a call leaves are its step's
+pub lists_left : (s : Station) (i k : ℕ) (o : Outcome) (p : ℕ) → lists_by s.lists i o p ≡ (station_after s i k o).lists p
+lists_left s i k (Ok step) p = refl
+lists_left s i k (Err e) p = refl
+
 module _ (s : Station) (i k : ℕ) (reply : Reply) (d : Cabinet) (owners' : ℕ) (ls' : ℕ → List Entry)
     (owner : i < owners') (least : 1 ≤ s.limit) (short : length (ls' i) ≤ s.limit) (room : tray_start s k + tray_length s.limit ≤ length s.trays) where
   -- what is said is written, the record is the step's, and all else is as the call leaves it

@@ -2,3 +2,4 @@ pub mod Openings
 pub mod Refusing
 pub mod Finishing
 pub mod Wording
+pub mod Hands

@@ -1,5 +1,5 @@
 -- What a cabinet does of itself says only what its list has. Assumes nothing.
-use Rattle.std.proofs.Common.{◌≡◌, ℕ, Bool, true, ltb, List, [], ◌∷◌, ◌++◌, length, Ok, Err, refl, arith}
+use Rattle.std.proofs.Common.{ℕ, Bool, ltb, List, [], ◌∷◌, ◌++◌, length, Ok, Err, refl, arith}
 use Rattle.std.proofs.lemmas.List.{length_push}
 use Rattle.std.proofs.lemmas.Bool.{lt-ltb}
 use Rattle.refusal.specs.declared.Refusal.TheVariants.{NotInPlay, Full}
@@ -10,7 +10,7 @@ use Rattle.cabinet.specs.declared.Cabinet.{Cabinet}
 use Rattle.cabinet.specs.declared.Reply.TheVariants.{Candidate, Entry as Entered}
 use Rattle.cabinet.specs.Epochs.{epoch_answer}
 use Rattle.cabinet.specs.Records.{stands}
-use Rattle.cabinet.specs.Steps.{Outcome, leaves}
+use Rattle.cabinet.specs.Steps.{leaves}
 use Rattle.configurations.specs.Configurations.{in_play}
 use Rattle.committing.specs.Committing.{elected, winning}
 use Rattle.acts.specs.Acts.{says_history, stood, entered, enter_step, leading, order_entry, members_entry, change_checks}

@@ -61,14 +61,8 @@ pub fn hand<K: OrderKind, J: Journal, R: QuorumRule>(
     let cabinets = table.len() as u8;
     let size = tray_length(journal.limit());
     let at = from as usize * size;
+    let bytes = &trays[at..at + size];
     let hearer = &mut table[cabinet as usize];
-    let reply = hear::<K, J, R>(
-        hearer,
-        cabinet,
-        cabinets,
-        journal,
-        rule,
-        &trays[at..at + size],
-    )?;
+    let reply = hear::<K, J, R>(hearer, cabinet, cabinets, journal, rule, bytes)?;
     say(hearer.promised, journal, trays, cabinet, to, reply)
 }

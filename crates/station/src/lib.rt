@@ -2,16 +2,16 @@
 #![tactic(auto)]
 
 mod acting;
-mod calls;
 mod checks;
 mod founding;
 mod handing;
+mod requests;
 mod switching;
 mod trays;
 
-pub use calls::{change, refresh, stand, submit};
 pub use founding::found;
 pub use handing::hand;
+pub use requests::{change, refresh, stand, submit};
 pub use switching::{start, stop};
 
 // What a cabinet does of itself.

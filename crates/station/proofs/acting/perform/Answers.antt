@@ -1,6 +1,7 @@
-use Rattle.std.proofs.Common.{◌≡◌, ℕ, ◌+◌, ◌*◌, ◌≤◌, Bool, List, length, set, Err, sym, refl, ap, ◌∙◌, subst, arith}
+use Rattle.std.proofs.Common.{ℕ, ◌+◌, ◌*◌, ◌≤◌, Bool, List, length, Ok, Err, sym, refl, ap, ◌∙◌, subst, arith}
 use Rattle.std.proofs.lemmas.Result.{err_from_is_err_and}
 use Rattle.refusal.specs.declared.Refusal.{Refusal}
+use Rattle.refusal.specs.Answers.{and_then}
 use Rattle.journal.specs.declared.Entry.{Entry}
 use Rattle.entries.specs.Histories.{codes_of}
 use Rattle.cabinet.specs.declared.Cabinet.{Cabinet}
@@ -11,9 +12,9 @@ use Rattle.receiving.proofs.Naming.{listed_names}
 use Rattle.receiving.proofs.Answering.{refused_step}
 use Rattle.calls.specs.Stations.{Station, station, station_after, cabinets, cabinet_at}
 use Rattle.calls.specs.Calls.{kind_of}
-use Rattle.station.specs.Acting.{act_step}
+use Rattle.station.specs.Acting.{act_step, said_answer, said_trays}
 use Rattle.station.proofs.Refusing.{same_table, called_tells, does_step, call_refused}
-use Rattle.station.proofs.Finishing.{finished}
+use Rattle.station.proofs.Finishing.{finished, lists_left}
 use Rattle.station.proofs.Wording.{act_names}
 use Rattle.station.proofs.acting.perform.Goals as goal
 
@@ -65,7 +66,15 @@ returns-in_err-reply g c =
     }
 
 pub say-requires : goal.say-requires
-say-requires g c = ?
+say-requires g c =
+    let table : List Cabinet = c.args.table.now in
+    let journal = c.args.journal.now in
+    let codes : ℕ → Bool = codes_of g.K.OrderKind.decode in
+    let s : Station = station table (g.J.Journal.owners journal) (g.J.Journal.limit journal) (g.J.Journal.lists journal) c.args.trays.now in
+    let i : ℕ = c.args.number in
+    let k : ℕ = c.args.tray in
+    let tells = called_tells codes s i k (sym c.in_ok-check_call.was ∙ c.check_call.ensures) in
+    subst (λ n. k * tray_length n + tray_length n ≤ length s.trays) (sym c.act.ensures.limit) tells.room
 
 pub returns : goal.returns
 returns g c =
@@ -87,4 +96,13 @@ returns g c =
     let done =
     finished s i k c.in_ok-reply.reply c.act.new.cabinet (g.J.Journal.owners c.act.new.journal) ls' (omega (arith, tells.is_named.within, tells.is_named.owned, c.act.ensures.owners)) (omega (arith, tells.is_named.limited)) short tells.room
     o (sym c.in_ok-reply.was ∙ c.act.ensures.answer) c.act.ensures.«record» (c.act.ensures.lists i) names in
-    ?
+    let owners' : ℕ = g.J.Journal.owners c.act.new.journal in
+    let promised : ℕ = c.act.new.cabinet.promised in
+    record {
+      answer = c.say.ensures.answer ∙ ap (λ n. and_then (said_answer owners' i promised (ls' i) c.in_ok-reply.reply (tray_length n) k s.trays) (λ m. Ok (0, m))) c.act.ensures.limit ∙ done.0 ∙ sym (ap (answer_by i) whole);
+      table = done.1 ∙ sym (ap (λ (x : Outcome). (station_after s i k x).table) whole);
+      lists = λ p. c.act.ensures.lists p ∙ lists_left s i k o p ∙ sym (ap (λ (x : Outcome). (station_after s i k x).lists p) whole);
+      owners = c.act.ensures.owners;
+      limit = c.act.ensures.limit;
+      trays = c.say.ensures.trays ∙ ap (λ n. said_trays owners' i promised (ls' i) c.in_ok-reply.reply (tray_length n) k s.trays) c.act.ensures.limit ∙ done.2 ∙ sym (ap (λ (x : Outcome). (station_after s i k x).trays) whole);
+    }

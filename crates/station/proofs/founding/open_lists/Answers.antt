@@ -1,5 +1,4 @@
-use Rattle.std.proofs.Common.{◌≡◌, ℕ, ◌+◌, ◌<◌, ◌≤◌, cond, ltb, List, [], ◌∷◌, Ok, Err, Result, sym, refl, ap, ◌∙◌, arith}
-use Rattle.refusal.specs.declared.Refusal.{Refusal}
+use Rattle.std.proofs.Common.{◌≡◌, ℕ, ◌<◌, cond, ltb, List, [], ◌∷◌, sym, refl, ap, ◌∙◌, arith}
 use Rattle.journal.specs.declared.Entry.{Entry}
 use Rattle.station.proofs.Openings.{owner_there, one_more, none_open}
 use Rattle.station.proofs.founding.open_lists.Goals as goal
