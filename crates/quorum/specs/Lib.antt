@@ -5,3 +5,4 @@ pub mod Sets
 pub mod Grouping
 pub mod Masks
 pub mod Weighing
+pub mod Lawful

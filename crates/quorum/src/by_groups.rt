@@ -1,10 +1,7 @@
-ghost use Rattle.std.specs.Prelude.{◌≡◌, ◌*◌, ◌≤◌, if◌then◌else◌, bit_and, nat_lt};
-ghost use Rattle.std.proofs.Common.{ap, arith};
+ghost use Rattle.std.specs.Prelude.{◌≡◌, ◌≤◌, if◌then◌else◌};
 ghost use Rattle.quorum.specs.Sets.{count};
 ghost use Rattle.quorum.specs.GroupRule.{group_number, weight_in, counts, won, by_groups};
-ghost use Rattle.quorum.specs.Grouping.{won_members, won_grows, won_counts, won_share};
-ghost use Rattle.quorum.specs.Weighing.{weigh_same, weigh_mono, weigh_share};
-ghost use Rattle.std.proofs.lemmas.Bool.{lt-ltb, ltb-true};
+ghost use Rattle.quorum.specs.Lawful.{groups_members_count, groups_grow, groups_share_member};
 
 use crate::{Group, Groups, QuorumRule};
 
@@ -67,18 +64,11 @@ impl Groups {
 impl QuorumRule for Groups {
     ghost quorum = { by_groups };
 
-    ghost members_count = { λ rule m a. ap (λ n. nat_lt (count 4 (counts rule m)) (2 * n)) (weigh_same (λ _. 1) 4 (won rule m (bit_and a m)) (won rule m a) (won_members rule m a)) };
+    ghost members_count = { groups_members_count };
 
-    ghost grows = { λ rule m a b sub quorum.
-        let more = ltb-true (count 4 (counts rule m)) (2 * count 4 (won rule m a)) quorum in
-        let grown = weigh_mono (λ _. 1) 4 (won rule m a) (won rule m b) (won_grows rule m a b sub) in
-        lt-ltb (count 4 (counts rule m)) (2 * count 4 (won rule m b)) (omega arith) };
+    ghost grows = { groups_grow };
 
-    ghost share_member = { λ rule m a b by-a by-b.
-        let more-a = ltb-true (count 4 (counts rule m)) (2 * count 4 (won rule m a)) by-a in
-        let more-b = ltb-true (count 4 (counts rule m)) (2 * count 4 (won rule m b)) by-b in
-        let group = weigh_share (λ _. 1) 4 (counts rule m) (won rule m a) (won rule m b) (won_counts rule m a) (won_counts rule m b) (omega arith) in
-        won_share rule m a b group.0 group.1 group.2 };
+    ghost share_member = { groups_share_member };
 
     fn is_quorum(&self, members: u16, set: u16) -> bool {
         let (counting, won) = self.groups_won(members, set);
