@@ -1,4 +1,4 @@
-// What a cabinet says, as a frame in the caller's buffer: nothing is asked but room.
+// What a cabinet says, as a frame in the caller's buffer: nothing is asked but the list, the entry that is named, and room.
 ghost use Rattle.std.specs.Prelude.{◌≡◌, ◌-◌, ◌*◌, ◌≤◌, ◌++◌, length, take, replicate, Ok};
 ghost use Rattle.cabinet.specs.declared.Reply.TheVariants.{Entry as EntryReply, History as HistoryReply};
 ghost use Rattle.frames.specs.Letters.{frame_length, header_bytes};
