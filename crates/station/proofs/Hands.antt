@@ -63,9 +63,3 @@ module _ (codes : ℕ → Bool) (quorum : ℕ → ℕ → Bool) (s : Station) (f
       five_then (named s i) (has_tray s from) (has_tray s to) holds_frame (ready_at codes s i) heard
       ∙ sym (ap (λ (r : Result (Unit {0}) Refusal). and_then r (λ _. heard)) told)
       ∙ sym (listed_ok s.owners s.lists i (cabinet_at s i) heard (omega (arith, t.is_named.within, t.is_named.owned)) t.reaches)
-
-  -- one whose checks refuse is refused
-  pub hand_refused : (e : Refusal) → Err e ≡ handed codes s from i to → hand_call codes quorum s from i to ≡ Err e
-  hand_refused e told =
-      five_then (named s i) (has_tray s from) (has_tray s to) holds_frame (ready_at codes s i) heard
-      ∙ sym (ap (λ (r : Result (Unit {0}) Refusal). and_then r (λ _. heard)) told)

@@ -89,11 +89,6 @@ does_step codes s i k o told =
     ∙ sym (ap (λ (r : Result (Unit {0}) Refusal). and_then r (λ _. o)) told)
     ∙ sym (listed_ok s.owners s.lists i (cabinet_at s i) o (omega (arith, t.is_named.within, t.is_named.owned)) t.reaches)
 
--- one whose checks refuse is refused
-pub call_refused : (codes : ℕ → Bool) (s : Station) (i k : ℕ) (o : Outcome) (e : Refusal) → Err e ≡ called codes s i k → acting codes s i k o ≡ Err e
-call_refused codes s i k o e told =
-    checks_then (named s i) (has_tray s k) (ready_at codes s i) o ∙ sym (ap (λ (r : Result (Unit {0}) Refusal). and_then r (λ _. o)) told)
-
 -- a refresh leaves the record as it was
 pub refresh_leaves : (owners : ℕ) (ls : ℕ → List Entry) (i : ℕ) (c : Cabinet) → c ≡ left_by c (listed owners ls i c (refresh_step (ls i) c))
 refresh_leaves owners ls i c = all (ltb i owners) (leb c.mark (length (ls i))) (eqb c.role 2)

@@ -1,9 +1,12 @@
-ghost use Rattle.std.specs.Prelude.{◌≡◌, ℕ};
+ghost use Rattle.std.specs.Prelude.{◌≡◌, ◌+◌, ◌*◌, ◌≤◌, ◌==◌, ℕ, not, length, slice_index};
+ghost use Rattle.refusal.specs.Answers.{unless};
+ghost use Rattle.refusal.specs.declared.Refusal.TheVariants.{EmptyTray};
+ghost use Rattle.receiving.specs.Readiness.{tray_length};
 ghost use Rattle.entries.specs.Histories.{codes_of};
 ghost use Rattle.writing.specs.Speaking.{answer_by};
 ghost use Rattle.calls.specs.Stations.{station, station_after};
 ghost use Rattle.calls.specs.Calls.{hand_call};
-ghost use Rattle.station.specs.Acting.{handed};
+ghost use Rattle.station.specs.Acting.{handed, part};
 
 use crate::checks::{check_named, check_tray};
 use crate::trays::say;
@@ -14,6 +17,18 @@ use quorum::QuorumRule;
 use reactions::hear;
 use receiving::{check_ready, tray_length};
 use refusal::Refusal;
+
+// 5 for an empty tray: its first byte is 0.
+fn check_filled<J: Journal>(journal: &J, trays: &[u8], tray: u8) -> Result<(), Refusal>
+    requires { tray * tray_length (J.limit journal.now) + tray_length (J.limit journal.now) ≤ length trays.now }
+    ensures { result ≡ unless (not (slice_index (part (tray_length (J.limit journal.now)) tray trays.now) 0 == 0)) EmptyTray }
+{
+    if trays[tray as usize * tray_length(journal.limit())] == 0 {
+        Err(Refusal::EmptyTray)
+    } else {
+        Ok(())
+    }
+}
 
 // The checks of a hand: 1, 2, 3 for either tray, 5 for an empty one, 6, 8.
 fn check_hand<K: OrderKind, J: Journal>(
@@ -29,9 +44,7 @@ fn check_hand<K: OrderKind, J: Journal>(
     check_named(table, journal, trays, cabinet)?;
     check_tray(table, journal, trays, from)?;
     check_tray(table, journal, trays, to)?;
-    if trays[from as usize * tray_length(journal.limit())] == 0 {
-        return Err(Refusal::EmptyTray);
-    }
+    check_filled(journal, trays, from)?;
     check_ready::<K, J>(
         table.len() as u8,
         cabinet,
