@@ -1,6 +1,6 @@
 ghost use Rattle.std.specs.Prelude.{◌≡◌, ℕ};
 ghost use Rattle.orders.specs.Kinds.{code_answer};
-ghost use Rattle.cabinet.specs.Steps.{left_by, listed, lists_by, said_by};
+ghost use Rattle.cabinet.specs.Steps.{SteppedOver, listed};
 ghost use Rattle.acts.specs.Acts.{enter_step, submit_step, members_entry, change_checks, change_step};
 
 use crate::standing::check_leading;
@@ -21,11 +21,8 @@ fn enter<J: Journal, R: QuorumRule>(
     rule: &R,
     entry: Entry,
 ) -> Result<Reply, Refusal>
-    ensures answer { result ≡ said_by (listed (J.owners journal.old) (J.lists journal.old) number cabinet.old (enter_step (R.quorum rule.now) (J.limit journal.old) number (J.lists journal.old number) cabinet.old entry)) }
-    ensures record { cabinet.new ≡ left_by cabinet.old (listed (J.owners journal.old) (J.lists journal.old) number cabinet.old (enter_step (R.quorum rule.now) (J.limit journal.old) number (J.lists journal.old number) cabinet.old entry)) }
-    ensures lists { (p : ℕ) → J.lists journal.new p ≡ lists_by (J.lists journal.old) number (listed (J.owners journal.old) (J.lists journal.old) number cabinet.old (enter_step (R.quorum rule.now) (J.limit journal.old) number (J.lists journal.old number) cabinet.old entry)) p }
-    ensures owners { J.owners journal.new ≡ J.owners journal.old }
-    ensures limit { J.limit journal.new ≡ J.limit journal.old }
+    ensures { SteppedOver J.owners J.limit J.lists journal.old journal.new number cabinet.old cabinet.new result
+        (enter_step (R.quorum rule.now) (J.limit journal.old) number (J.lists journal.old number) cabinet.old entry) }
 {
     let position = cabinet.list_length(number, journal)?;
     journal.append(number as u16, entry)?;
@@ -45,11 +42,8 @@ pub fn submit<K: OrderKind, J: Journal, R: QuorumRule>(
     rule: &R,
     order: K,
 ) -> Result<Reply, Refusal>
-    ensures answer { result ≡ said_by (listed (J.owners journal.old) (J.lists journal.old) number cabinet.old (submit_step (R.quorum rule.now) (J.limit journal.old) number (J.lists journal.old number) cabinet.old (code_answer (K.proper order) (K.encode order)))) }
-    ensures record { cabinet.new ≡ left_by cabinet.old (listed (J.owners journal.old) (J.lists journal.old) number cabinet.old (submit_step (R.quorum rule.now) (J.limit journal.old) number (J.lists journal.old number) cabinet.old (code_answer (K.proper order) (K.encode order)))) }
-    ensures lists { (p : ℕ) → J.lists journal.new p ≡ lists_by (J.lists journal.old) number (listed (J.owners journal.old) (J.lists journal.old) number cabinet.old (submit_step (R.quorum rule.now) (J.limit journal.old) number (J.lists journal.old number) cabinet.old (code_answer (K.proper order) (K.encode order)))) p }
-    ensures owners { J.owners journal.new ≡ J.owners journal.old }
-    ensures limit { J.limit journal.new ≡ J.limit journal.old }
+    ensures { SteppedOver J.owners J.limit J.lists journal.old journal.new number cabinet.old cabinet.new result
+        (submit_step (R.quorum rule.now) (J.limit journal.old) number (J.lists journal.old number) cabinet.old (code_answer (K.proper order) (K.encode order))) }
 {
     cabinet.list_length(number, journal)?;
     check_leading(cabinet)?;
@@ -108,11 +102,8 @@ pub fn change<J: Journal, R: QuorumRule>(
     version: u32,
     members: u16,
 ) -> Result<Reply, Refusal>
-    ensures answer { result ≡ said_by (listed (J.owners journal.old) (J.lists journal.old) number cabinet.old (change_step (R.quorum rule.now) (J.limit journal.old) cabinets number (J.lists journal.old number) cabinet.old version members)) }
-    ensures record { cabinet.new ≡ left_by cabinet.old (listed (J.owners journal.old) (J.lists journal.old) number cabinet.old (change_step (R.quorum rule.now) (J.limit journal.old) cabinets number (J.lists journal.old number) cabinet.old version members)) }
-    ensures lists { (p : ℕ) → J.lists journal.new p ≡ lists_by (J.lists journal.old) number (listed (J.owners journal.old) (J.lists journal.old) number cabinet.old (change_step (R.quorum rule.now) (J.limit journal.old) cabinets number (J.lists journal.old number) cabinet.old version members)) p }
-    ensures owners { J.owners journal.new ≡ J.owners journal.old }
-    ensures limit { J.limit journal.new ≡ J.limit journal.old }
+    ensures { SteppedOver J.owners J.limit J.lists journal.old journal.new number cabinet.old cabinet.new result
+        (change_step (R.quorum rule.now) (J.limit journal.old) cabinets number (J.lists journal.old number) cabinet.old version members) }
 {
     cabinet.list_length(number, journal)?;
     check_leading(cabinet)?;

@@ -1,5 +1,5 @@
 ghost use Rattle.std.specs.Prelude.{◌≡◌};
-ghost use Rattle.cabinet.specs.Steps.{left_by, listed, said_by};
+ghost use Rattle.cabinet.specs.Steps.{Stepped, listed, said_by};
 ghost use Rattle.acts.specs.Acts.{leading, stand_step, refresh_step};
 
 use cabinet::{Cabinet, LEADS, Reply, next_epoch};
@@ -16,8 +16,8 @@ pub fn stand<J: Journal, R: QuorumRule>(
     journal: &J,
     rule: &R,
 ) -> Result<Reply, Refusal>
-    ensures answer { result ≡ said_by (listed (J.owners journal.now) (J.lists journal.now) number cabinet.old (stand_step (R.quorum rule.now) number (J.lists journal.now number) cabinet.old)) }
-    ensures record { cabinet.new ≡ left_by cabinet.old (listed (J.owners journal.now) (J.lists journal.now) number cabinet.old (stand_step (R.quorum rule.now) number (J.lists journal.now number) cabinet.old)) }
+    ensures { Stepped J.owners J.lists journal.now number cabinet.old cabinet.new result
+        (stand_step (R.quorum rule.now) number (J.lists journal.now number) cabinet.old) }
 {
     let length = cabinet.list_length(number, journal)?;
     if !in_play(journal, number as u16, cabinet.mark, number)? {

@@ -1,5 +1,5 @@
 -- What a step leaves: a cabinet's record, its list, and what the cabinet says. Assumes nothing.
-use Rattle.std.specs.Prelude.{ℕ, cond, List, length, Ok, Err, Result, ◌==◌, nat_le}
+use Rattle.std.specs.Prelude.{◌≡◌, ℕ, cond, List, length, Ok, Err, Result, ◌==◌, nat_le}
 use Rattle.refusal.specs.declared.Refusal.{Refusal}
 use Rattle.refusal.specs.declared.Refusal.TheVariants.{NoPosition}
 use Rattle.journal.specs.declared.Entry.{Entry}
@@ -39,3 +39,16 @@ said_by (Err e) = Err e
 -- what becomes of a cabinet whose list is there and reaches its mark; else 2 or 50, which no sound cabinet of a station gets
 abbrev pub listed : {A : Type 0} → ℕ → (ℕ → List Entry) → ℕ → Cabinet → Result A Refusal → Result A Refusal
 listed owners ls i c answer = owned owners i (cond (nat_le c.mark (length (ls i))) answer (Err NoPosition))
+
+-- cabinet i has taken a step over a journal that it only read: the answer, and the record that it left
+pub record Stepped {S : Type 0} (owners_of : S → ℕ) (lists_of : S → ℕ → List Entry) (journal : S) (i : ℕ) (before after : Cabinet) (said : Result Reply Refusal) (o : Outcome) : Type 0 where
+  pub answer : said ≡ said_by (listed (owners_of journal) (lists_of journal) i before o)
+  pub «record» : after ≡ left_by before (listed (owners_of journal) (lists_of journal) i before o)
+
+-- cabinet i has taken a step over a journal that it may have changed: the answer, the record and the lists that it left
+pub record SteppedOver {S : Type 0} (owners_of limit_of : S → ℕ) (lists_of : S → ℕ → List Entry) (old new : S) (i : ℕ) (before after : Cabinet) (said : Result Reply Refusal) (o : Outcome) : Type 0 where
+  pub answer : said ≡ said_by (listed (owners_of old) (lists_of old) i before o)
+  pub «record» : after ≡ left_by before (listed (owners_of old) (lists_of old) i before o)
+  pub lists : (p : ℕ) → lists_of new p ≡ lists_by (lists_of old) i (listed (owners_of old) (lists_of old) i before o) p
+  pub owners : owners_of new ≡ owners_of old
+  pub limit : limit_of new ≡ limit_of old

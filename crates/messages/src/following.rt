@@ -1,5 +1,5 @@
 ghost use Rattle.std.specs.Prelude.{◌≡◌, ℕ};
-ghost use Rattle.cabinet.specs.Steps.{left_by, listed, lists_by, said_by};
+ghost use Rattle.cabinet.specs.Steps.{SteppedOver, Stepped};
 ghost use Rattle.messages.specs.Messages.{told_mark, commit_step, entry_step};
 
 use cabinet::{Cabinet, Reply};
@@ -21,8 +21,8 @@ pub fn take_commit<J: Journal>(
     journal: &J,
     mark: u32,
 ) -> Result<Reply, Refusal>
-    ensures answer { result ≡ said_by (listed (J.owners journal.now) (J.lists journal.now) number cabinet.old (commit_step (J.lists journal.now number) cabinet.old mark)) }
-    ensures record { cabinet.new ≡ left_by cabinet.old (listed (J.owners journal.now) (J.lists journal.now) number cabinet.old (commit_step (J.lists journal.now number) cabinet.old mark)) }
+    ensures { Stepped J.owners J.lists journal.now number cabinet.old cabinet.new result
+        (commit_step (J.lists journal.now number) cabinet.old mark) }
 {
     let length = cabinet.list_length(number, journal)?;
     take_mark(cabinet, length, mark);
@@ -38,11 +38,8 @@ pub fn take_entry<J: Journal>(
     mark: u32,
     entry: Entry,
 ) -> Result<Reply, Refusal>
-    ensures answer { result ≡ said_by (listed (J.owners journal.old) (J.lists journal.old) number cabinet.old (entry_step (J.limit journal.old) (J.lists journal.old number) cabinet.old position mark entry)) }
-    ensures record { cabinet.new ≡ left_by cabinet.old (listed (J.owners journal.old) (J.lists journal.old) number cabinet.old (entry_step (J.limit journal.old) (J.lists journal.old number) cabinet.old position mark entry)) }
-    ensures lists { (p : ℕ) → J.lists journal.new p ≡ lists_by (J.lists journal.old) number (listed (J.owners journal.old) (J.lists journal.old) number cabinet.old (entry_step (J.limit journal.old) (J.lists journal.old number) cabinet.old position mark entry)) p }
-    ensures owners { J.owners journal.new ≡ J.owners journal.old }
-    ensures limit { J.limit journal.new ≡ J.limit journal.old }
+    ensures { SteppedOver J.owners J.limit J.lists journal.old journal.new number cabinet.old cabinet.new result
+        (entry_step (J.limit journal.old) (J.lists journal.old number) cabinet.old position mark entry) }
 {
     let length = cabinet.list_length(number, journal)?;
     if position < length as u32 {

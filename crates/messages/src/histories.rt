@@ -1,6 +1,6 @@
 ghost use Rattle.std.specs.Prelude.{◌≡◌, ℕ, ◌<◌, ◌≤◌, length, Ok};
 ghost use Rattle.entries.specs.Entries.{entries_of};
-ghost use Rattle.cabinet.specs.Steps.{left_by, listed, lists_by, said_by};
+ghost use Rattle.cabinet.specs.Steps.{SteppedOver, listed};
 ghost use Rattle.messages.specs.Messages.{same_entry, same_front, keeps_committed, accepts, adopt_step, history_step};
 
 use cabinet::{Cabinet, Reply};
@@ -77,11 +77,8 @@ fn adopt<J: Journal>(
     entries: &[u8],
 ) -> Result<Reply, Refusal>
     requires { mark ≤ length (entries_of entries.now) }
-    ensures answer { result ≡ said_by (listed (J.owners journal.old) (J.lists journal.old) number cabinet.old (adopt_step (J.limit journal.old) (J.lists journal.old number) cabinet.old epoch mark (entries_of entries.now))) }
-    ensures record { cabinet.new ≡ left_by cabinet.old (listed (J.owners journal.old) (J.lists journal.old) number cabinet.old (adopt_step (J.limit journal.old) (J.lists journal.old number) cabinet.old epoch mark (entries_of entries.now))) }
-    ensures lists { (p : ℕ) → J.lists journal.new p ≡ lists_by (J.lists journal.old) number (listed (J.owners journal.old) (J.lists journal.old) number cabinet.old (adopt_step (J.limit journal.old) (J.lists journal.old number) cabinet.old epoch mark (entries_of entries.now))) p }
-    ensures owners { J.owners journal.new ≡ J.owners journal.old }
-    ensures limit { J.limit journal.new ≡ J.limit journal.old }
+    ensures { SteppedOver J.owners J.limit J.lists journal.old journal.new number cabinet.old cabinet.new result
+        (adopt_step (J.limit journal.old) (J.lists journal.old number) cabinet.old epoch mark (entries_of entries.now)) }
 {
     cabinet.list_length(number, journal)?;
     let count = count_of(entries);
@@ -107,11 +104,8 @@ pub fn take_history<J: Journal>(
     mark: u32,
     entries: &[u8],
 ) -> Result<Reply, Refusal>
-    ensures answer { result ≡ said_by (listed (J.owners journal.old) (J.lists journal.old) number cabinet.old (history_step (J.limit journal.old) (J.lists journal.old number) cabinet.old epoch mark (entries_of entries.now))) }
-    ensures record { cabinet.new ≡ left_by cabinet.old (listed (J.owners journal.old) (J.lists journal.old) number cabinet.old (history_step (J.limit journal.old) (J.lists journal.old number) cabinet.old epoch mark (entries_of entries.now))) }
-    ensures lists { (p : ℕ) → J.lists journal.new p ≡ lists_by (J.lists journal.old) number (listed (J.owners journal.old) (J.lists journal.old) number cabinet.old (history_step (J.limit journal.old) (J.lists journal.old number) cabinet.old epoch mark (entries_of entries.now))) p }
-    ensures owners { J.owners journal.new ≡ J.owners journal.old }
-    ensures limit { J.limit journal.new ≡ J.limit journal.old }
+    ensures { SteppedOver J.owners J.limit J.lists journal.old journal.new number cabinet.old cabinet.new result
+        (history_step (J.limit journal.old) (J.lists journal.old number) cabinet.old epoch mark (entries_of entries.now)) }
 {
     let length = cabinet.list_length(number, journal)?;
     let count = count_of(entries);

@@ -1,6 +1,6 @@
 ghost use Rattle.std.specs.Prelude.{◌≡◌};
 ghost use Rattle.cabinet.specs.Epochs.{later};
-ghost use Rattle.cabinet.specs.Steps.{left_by, listed, said_by};
+ghost use Rattle.cabinet.specs.Steps.{Stepped};
 ghost use Rattle.messages.specs.Messages.{candidate_step, promise_step, acknowledge_step};
 
 use cabinet::{Cabinet, Reply};
@@ -25,8 +25,8 @@ pub fn take_candidate<J: Journal>(
     accepted: u32,
     length: u32,
 ) -> Result<Reply, Refusal>
-    ensures answer { result ≡ said_by (listed (J.owners journal.now) (J.lists journal.now) number cabinet.old (candidate_step (J.lists journal.now number) cabinet.old epoch accepted length)) }
-    ensures record { cabinet.new ≡ left_by cabinet.old (listed (J.owners journal.now) (J.lists journal.now) number cabinet.old (candidate_step (J.lists journal.now number) cabinet.old epoch accepted length)) }
+    ensures { Stepped J.owners J.lists journal.now number cabinet.old cabinet.new result
+        (candidate_step (J.lists journal.now number) cabinet.old epoch accepted length) }
 {
     let own = (
         cabinet.accepted,
@@ -47,8 +47,8 @@ pub fn take_promise<J: Journal, R: QuorumRule>(
     rule: &R,
     sender: u8,
 ) -> Result<Reply, Refusal>
-    ensures answer { result ≡ said_by (listed (J.owners journal.now) (J.lists journal.now) number cabinet.old (promise_step (R.quorum rule.now) number (J.lists journal.now number) cabinet.old sender)) }
-    ensures record { cabinet.new ≡ left_by cabinet.old (listed (J.owners journal.now) (J.lists journal.now) number cabinet.old (promise_step (R.quorum rule.now) number (J.lists journal.now number) cabinet.old sender)) }
+    ensures { Stepped J.owners J.lists journal.now number cabinet.old cabinet.new result
+        (promise_step (R.quorum rule.now) number (J.lists journal.now number) cabinet.old sender) }
 {
     cabinet.list_length(number, journal)?;
     cabinet.gather(sender);
@@ -67,8 +67,8 @@ pub fn take_acknowledge<J: Journal, R: QuorumRule>(
     sender: u8,
     length: u32,
 ) -> Result<Reply, Refusal>
-    ensures answer { result ≡ said_by (listed (J.owners journal.now) (J.lists journal.now) number cabinet.old (acknowledge_step (R.quorum rule.now) number (J.lists journal.now number) cabinet.old sender length)) }
-    ensures record { cabinet.new ≡ left_by cabinet.old (listed (J.owners journal.now) (J.lists journal.now) number cabinet.old (acknowledge_step (R.quorum rule.now) number (J.lists journal.now number) cabinet.old sender length)) }
+    ensures { Stepped J.owners J.lists journal.now number cabinet.old cabinet.new result
+        (acknowledge_step (R.quorum rule.now) number (J.lists journal.now number) cabinet.old sender length) }
 {
     let most = cabinet.list_length(number, journal)?;
     if length > most as u32 {

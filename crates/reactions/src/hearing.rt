@@ -3,7 +3,7 @@ ghost use Rattle.journal.specs.Entries.{blank};
 ghost use Rattle.entries.specs.Entries.{entries_of};
 ghost use Rattle.entries.specs.Histories.{codes_of};
 ghost use Rattle.frames.specs.Reading.{letter, said};
-ghost use Rattle.cabinet.specs.Steps.{left_by, listed, lists_by, said_by};
+ghost use Rattle.cabinet.specs.Steps.{SteppedOver};
 ghost use Rattle.reactions.specs.Reactions.{content_step, react, hear_step};
 
 use crate::letters::check_letter;
@@ -40,11 +40,8 @@ fn take<J: Journal, R: QuorumRule>(
     rule: &R,
     frame: &Frame<'_>,
 ) -> Result<Reply, Refusal>
-    ensures answer { result ≡ said_by (listed (J.owners journal.old) (J.lists journal.old) number cabinet.old (content_step (R.quorum rule.now) (J.limit journal.old) number (J.lists journal.old number) cabinet.old frame.now.sender frame.now.epoch (said frame.now.message))) }
-    ensures record { cabinet.new ≡ left_by cabinet.old (listed (J.owners journal.old) (J.lists journal.old) number cabinet.old (content_step (R.quorum rule.now) (J.limit journal.old) number (J.lists journal.old number) cabinet.old frame.now.sender frame.now.epoch (said frame.now.message))) }
-    ensures lists { (p : ℕ) → J.lists journal.new p ≡ lists_by (J.lists journal.old) number (listed (J.owners journal.old) (J.lists journal.old) number cabinet.old (content_step (R.quorum rule.now) (J.limit journal.old) number (J.lists journal.old number) cabinet.old frame.now.sender frame.now.epoch (said frame.now.message))) p }
-    ensures owners { J.owners journal.new ≡ J.owners journal.old }
-    ensures limit { J.limit journal.new ≡ J.limit journal.old }
+    ensures { SteppedOver J.owners J.limit J.lists journal.old journal.new number cabinet.old cabinet.new result
+        (content_step (R.quorum rule.now) (J.limit journal.old) number (J.lists journal.old number) cabinet.old frame.now.sender frame.now.epoch (said frame.now.message)) }
 {
     let epoch = frame.epoch;
     match frame.message {
@@ -80,11 +77,8 @@ fn react<J: Journal, R: QuorumRule>(
     rule: &R,
     frame: &Frame<'_>,
 ) -> Result<Reply, Refusal>
-    ensures answer { result ≡ said_by (listed (J.owners journal.old) (J.lists journal.old) number cabinet.old (react (R.quorum rule.now) (J.limit journal.old) number (J.lists journal.old number) cabinet.old (letter frame.now))) }
-    ensures record { cabinet.new ≡ left_by cabinet.old (listed (J.owners journal.old) (J.lists journal.old) number cabinet.old (react (R.quorum rule.now) (J.limit journal.old) number (J.lists journal.old number) cabinet.old (letter frame.now))) }
-    ensures lists { (p : ℕ) → J.lists journal.new p ≡ lists_by (J.lists journal.old) number (listed (J.owners journal.old) (J.lists journal.old) number cabinet.old (react (R.quorum rule.now) (J.limit journal.old) number (J.lists journal.old number) cabinet.old (letter frame.now))) p }
-    ensures owners { J.owners journal.new ≡ J.owners journal.old }
-    ensures limit { J.limit journal.new ≡ J.limit journal.old }
+    ensures { SteppedOver J.owners J.limit J.lists journal.old journal.new number cabinet.old cabinet.new result
+        (react (R.quorum rule.now) (J.limit journal.old) number (J.lists journal.old number) cabinet.old (letter frame.now)) }
 {
     cabinet.list_length(number, journal)?;
     check_letter(cabinet, number, frame)?;
@@ -100,11 +94,8 @@ pub fn hear<K: OrderKind, J: Journal, R: QuorumRule>(
     rule: &R,
     bytes: &[u8],
 ) -> Result<Reply, Refusal>
-    ensures answer { result ≡ said_by (listed (J.owners journal.old) (J.lists journal.old) number cabinet.old (hear_step (codes_of K.decode) (R.quorum rule.now) cabinets (J.limit journal.old) number (J.lists journal.old number) cabinet.old bytes.now)) }
-    ensures record { cabinet.new ≡ left_by cabinet.old (listed (J.owners journal.old) (J.lists journal.old) number cabinet.old (hear_step (codes_of K.decode) (R.quorum rule.now) cabinets (J.limit journal.old) number (J.lists journal.old number) cabinet.old bytes.now)) }
-    ensures lists { (p : ℕ) → J.lists journal.new p ≡ lists_by (J.lists journal.old) number (listed (J.owners journal.old) (J.lists journal.old) number cabinet.old (hear_step (codes_of K.decode) (R.quorum rule.now) cabinets (J.limit journal.old) number (J.lists journal.old number) cabinet.old bytes.now)) p }
-    ensures owners { J.owners journal.new ≡ J.owners journal.old }
-    ensures limit { J.limit journal.new ≡ J.limit journal.old }
+    ensures { SteppedOver J.owners J.limit J.lists journal.old journal.new number cabinet.old cabinet.new result
+        (hear_step (codes_of K.decode) (R.quorum rule.now) cabinets (J.limit journal.old) number (J.lists journal.old number) cabinet.old bytes.now) }
 {
     cabinet.list_length(number, journal)?;
     let frame = read::<K>(cabinets, journal.limit(), bytes)?;
