@@ -1,15 +1,10 @@
 -- One more entry of a pass. Assumes nothing.
-use Rattle.std.proofs.Common.{◌≡◌, ℕ, ◌+◌, ◌<◌, ◌≤◌, Bool, true, false, cond, not, ◌&&◌, ◌||◌, List, length, get_or, Ok, sym, refl, ap, ◌∙◌, ap₂, add-one, arith}
+use Rattle.std.proofs.Common.{◌≡◌, ℕ, zero, suc, ◌+◌, ◌<◌, ◌≤◌, Bool, true, false, cond, not, ◌&&◌, ◌||◌, List, length, get_or, Ok, sym, refl, ap, ◌∙◌, ap₂, add-one, arith}
 use Rattle.journal.specs.declared.Entry.{Entry}
 use Rattle.journal.specs.Entries.{blank, members_of}
 use Rattle.entries.specs.Histories.{is_configuration}
 use Rattle.std.proofs.lemmas.Bool.Decides.{nat_tests}
 use Rattle.configurations.specs.Configurations.{last_before, members_before, version_before, each_from, front_answer}
-
--- one entry counts for at most one
-pub one_most : (b : Bool) → cond {A = ℕ} b 1 0 ≤ 1
-one_most true = omega arith
-one_most false = omega arith
 
 module _ (l : List Entry) where
   -- among no entries, the last configuration is put at 0
@@ -52,11 +47,19 @@ module _ (l : List Entry) where
     each_none = refl
 
     -- one entry more is tested where it is a configuration
-    pub each_more : (n : ℕ) (so_far : Bool) (e : Entry) → get_or l (from + n) blank ≡ e → so_far ≡ each_from test l from n
-        → (so_far && (not (is_configuration e.kind) || test (members_of e.body))) ≡ each_from test l from (n + 1)
+    pub each_more : (n : ℕ) (e : Entry) → get_or l (from + n) blank ≡ e → each_from test l from n ≡ true
+        → each_from test l from (n + 1) ≡ (not (is_configuration e.kind) || test (members_of e.body))
     unfolding each_from
-    each_more n so_far e is before =
-        ap₂ (λ (e : Entry) b. b && (not (is_configuration e.kind) || test (members_of e.body))) (sym is) before ∙ sym (ap (each_from test l from) (add-one n))
+    each_more n e is before =
+        ap (each_from test l from) (add-one n) ∙ ap₂ (λ (e : Entry) b. b && (not (is_configuration e.kind) || test (members_of e.body))) is before
+
+    -- and where it has failed once, it fails of all
+    pub each_fails : (n k : ℕ) → each_from test l from n ≡ false → each_from test l from (n + k) ≡ false
+    unfolding each_from
+    each_fails n zero failed = ap (each_from test l from) (let z : n + 0 ≡ n = omega arith in z) ∙ failed
+    each_fails n (suc k) failed =
+        ap (each_from test l from) (let z : n + suc k ≡ suc (n + k) = omega arith in z)
+        ∙ ap (λ b. b && (not (is_configuration (get_or l (from + (n + k)) blank).kind) || test (members_of (get_or l (from + (n + k)) blank).body))) (each_fails n k failed)
 
 -- an accepted answer about the first n entries tells that they are there
 pub front_tells : {A : Type 0} (owners o n : ℕ) (ls : ℕ → List Entry) (x y : A) → Ok x ≡ front_answer owners ls o n y → (o < owners) × (n ≤ length (ls o)) × (x ≡ y)

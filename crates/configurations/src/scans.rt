@@ -1,39 +1,28 @@
-ghost use Rattle.std.specs.Prelude.{◌≡◌, ◌-◌, not, ◌&&◌, ◌||◌, length, if◌then◌else◌, Ok};
+ghost use Rattle.std.specs.Prelude.{◌≡◌, ℕ, ◌-◌, Bool, length, Ok};
 ghost use Rattle.journal.specs.Entries.{members_of};
 ghost use Rattle.journal.specs.Lists.{owned};
 ghost use Rattle.entries.specs.Histories.{is_configuration};
+ghost use Rattle.configurations.specs.Tests.{Computes};
 ghost use Rattle.configurations.specs.Configurations.{last_before, members_after, members_before, commits_entry, version_before, each_from, each_in_play, elects as elects_by, in_play, front_answer};
 
-use crate::tests_of_members::{IsQuorum, Lacks, MembersTest};
 use journal::{Entry, EntryKind, Journal};
-use quorum::QuorumRule;
+use quorum::{QuorumRule, contains};
 use refusal::Refusal;
 
 // Whether an entry names members.
 fn is_configuration(entry: Entry) -> bool
     ensures { result ≡ is_configuration entry.kind }
 {
-    match entry.kind {
-        EntryKind::Configuration => true,
-        EntryKind::Order => false,
-    }
-}
-
-// One of two numbers.
-fn choose(first: bool, a: u16, b: u16) -> u16
-    ensures { result ≡ (if first then a else b) }
-{
-    if first { a } else { b }
+    entry.kind == EntryKind::Configuration
 }
 
 // The members after an entry, given those before it.
 pub fn members_after(entry: Entry, before: u16) -> u16
     ensures { result ≡ members_after entry before }
 {
-    if is_configuration(entry) {
-        entry.members()
-    } else {
-        before
+    match entry.kind {
+        EntryKind::Configuration => entry.members(),
+        EntryKind::Order => before,
     }
 }
 
@@ -41,7 +30,8 @@ pub fn members_after(entry: Entry, before: u16) -> u16
 pub fn commits<R: QuorumRule>(rule: &R, before: u16, entry: Entry, set: u16) -> bool
     ensures { result ≡ commits_entry (R.quorum rule.now) before entry set }
 {
-    rule.is_quorum(before, set) & (!is_configuration(entry) || rule.is_quorum(entry.members(), set))
+    rule.is_quorum(before, set)
+        && (!is_configuration(entry) || rule.is_quorum(entry.members(), set))
 }
 
 // Where the last configuration among the first `count` entries stands. One pass over them.
@@ -54,7 +44,9 @@ pub fn last_before<J: Journal>(journal: &J, owner: u16, count: u16) -> Result<u1
     let mut last = 0;
     for p in 0..count {
         let entry = journal.entry(owner, p)?;
-        last = choose(is_configuration(entry), p, last);
+        if is_configuration(entry) {
+            last = p;
+        }
     }
     Ok(last)
 }
@@ -79,47 +71,46 @@ pub fn version<J: Journal>(journal: &J, owner: u16) -> Result<u16, Refusal>
     ensures { result ≡ owned (J.owners journal.now) owner (Ok (version_before (J.lists journal.now owner) (length (J.lists journal.now owner)))) }
 {
     let count = journal.length(owner)?;
-    let mut version = 0;
+    let mut version: u16 = 0;
     for p in 0..count {
         let entry = journal.entry(owner, p)?;
-        version += choose(is_configuration(entry), 1, 0);
+        if is_configuration(entry) {
+            version += 1;
+        }
     }
     Ok(version)
 }
 
-// Whether an entry is no configuration or its members pass the test.
-fn passes<T: MembersTest>(test: &T, entry: Entry) -> bool
-    ensures { result ≡ (not (is_configuration entry.kind) || T.holds test.now (members_of entry.body)) }
-{
-    !is_configuration(entry) || test.holds(entry.members())
-}
-
-// Whether the test holds of every configuration from a position on. Each entry is read once.
-fn each_from<J: Journal, T: MembersTest>(
+// Whether the test holds of the members of every configuration from a position on. Each entry is read once.
+fn each_from<J: Journal, F: Fn(u16) -> bool>(
     journal: &J,
     owner: u16,
     from: u16,
-    test: &T,
+    test: &F,
 ) -> Result<bool, Refusal>
-    ensures { result ≡ owned (J.owners journal.now) owner (Ok (each_from (T.holds test.now) (J.lists journal.now owner) from (length (J.lists journal.now owner) - from))) }
+    requires { F.IsAlwaysCallable test.now }
+    ensures { (holds : ℕ → Bool) → Computes F.Fn test.now holds
+        → result ≡ owned (J.owners journal.now) owner (Ok (each_from holds (J.lists journal.now owner) from (length (J.lists journal.now owner) - from))) }
 {
-    let count = journal.length(owner)?;
-    let mut each = true;
-    for p in from..count {
+    for p in from..journal.length(owner)? {
         let entry = journal.entry(owner, p)?;
-        each = each & passes(test, entry);
+        if is_configuration(entry) && !test(entry.members()) {
+            return Ok(false);
+        }
     }
-    Ok(each)
+    Ok(true)
 }
 
-// Whether the test holds of every configuration in play at a mark.
-fn each_in_play<J: Journal, T: MembersTest>(
+// Whether the test holds of the members of every configuration in play at a mark.
+fn each_in_play<J: Journal, F: Fn(u16) -> bool>(
     journal: &J,
     owner: u16,
     mark: u16,
-    test: &T,
+    test: &F,
 ) -> Result<bool, Refusal>
-    ensures { result ≡ front_answer (J.owners journal.now) (J.lists journal.now) owner mark (each_in_play (T.holds test.now) (J.lists journal.now owner) mark) }
+    requires { F.IsAlwaysCallable test.now }
+    ensures { (holds : ℕ → Bool) → Computes F.Fn test.now holds
+        → result ≡ front_answer (J.owners journal.now) (J.lists journal.now) owner mark (each_in_play holds (J.lists journal.now owner) mark) }
 {
     let from = last_before(journal, owner, mark)?;
     each_from(journal, owner, from, test)
@@ -135,13 +126,14 @@ pub fn elects<J: Journal, R: QuorumRule>(
 ) -> Result<bool, Refusal>
     ensures { result ≡ front_answer (J.owners journal.now) (J.lists journal.now) owner mark (elects_by (R.quorum rule.now) (J.lists journal.now owner) mark set) }
 {
-    each_in_play(journal, owner, mark, &IsQuorum { rule, set })
+    let elects = |members| rule.is_quorum(members, set);
+    each_in_play(journal, owner, mark, &elects)
 }
 
 // Whether the cabinet is in a configuration in play at a mark.
 pub fn in_play<J: Journal>(journal: &J, owner: u16, mark: u16, cabinet: u8) -> Result<bool, Refusal>
     ensures { result ≡ front_answer (J.owners journal.now) (J.lists journal.now) owner mark (in_play (J.lists journal.now owner) mark cabinet) }
 {
-    let absent = each_in_play(journal, owner, mark, &Lacks { cabinet })?;
-    Ok(!absent)
+    let lacks = |members| !contains(members, cabinet);
+    Ok(!each_in_play(journal, owner, mark, &lacks)?)
 }
