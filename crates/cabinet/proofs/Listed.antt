@@ -1,5 +1,5 @@
 -- What the length of a cabinet's list tells, and what becomes of a cabinet without one. Assumes nothing.
-use Rattle.std.proofs.Common.{◌≡◌, ℕ, ◌<◌, ◌≤◌, cond, ltb, leb, List, length, Ok, Err, Result, sym, ap, ◌∙◌, arith}
+use Rattle.std.proofs.Common.{◌≡◌, ℕ, ◌<◌, ◌≤◌, cond, ltb, leb, List, length, Ok, Err, Result, sym, refl, ap, ◌∙◌, arith}
 use Rattle.std.proofs.lemmas.Bool.{cond-true, lt-ltb, le-leb}
 use Rattle.std.proofs.lemmas.Bool.Decides.{nat_tests}
 use Rattle.refusal.specs.declared.Refusal.{Refusal}
@@ -7,7 +7,7 @@ use Rattle.refusal.specs.declared.Refusal.TheVariants.{NoCabinet, NoPosition}
 use Rattle.journal.specs.declared.Entry.{Entry}
 use Rattle.cabinet.specs.declared.Cabinet.{Cabinet}
 use Rattle.cabinet.specs.declared.Reply.{Reply}
-use Rattle.cabinet.specs.Steps.{Outcome, left_by, listed, lists_by, said_by}
+use Rattle.cabinet.specs.Steps.{Outcome, left_by, listed, lists_by, said_by, SteppedOver}
 
 module _ (owners : ℕ) (ls : ℕ → List Entry) (i : ℕ) (c : Cabinet) where
   -- what becomes of a cabinet whose list is there
@@ -24,11 +24,18 @@ module _ (owners : ℕ) (ls : ℕ → List Entry) (i : ℕ) (c : Cabinet) where
   pub listed_refused : {A B : Type 0} (y : A) (x : Result B Refusal) (e : Refusal) → Err e ≡ listed owners ls i c (Ok y) → listed owners ls i c x ≡ Err e
   listed_refused y x e told = grind (arith, nat_tests)
 
-  -- a refused step leaves record and lists as they were
-  pub untouched_by : (o : Outcome) (e : Refusal) (r : Result Reply Refusal) → o ≡ Err e → r ≡ Err e → (r ≡ said_by o) × (c ≡ left_by c o) × ((p : ℕ) → ls p ≡ lists_by ls i o p)
-  untouched_by o e r refused answer = (answer ∙ sym (ap said_by refused), sym (ap (left_by c) refused), λ p. sym (ap (λ (x : Outcome). lists_by ls i x p) refused))
+module _ {S : Type 0} (owners_of limit_of : S → ℕ) (lists_of : S → ℕ → List Entry) (journal : S) (i : ℕ) (c : Cabinet) (o : Outcome) where
+  -- a refused step leaves the record and the journal as they were
+  pub refused_over : (e : Refusal) (r : Result Reply Refusal) → listed (owners_of journal) (lists_of journal) i c o ≡ Err e → r ≡ Err e → SteppedOver owners_of limit_of lists_of journal journal i c c r o
+  refused_over e r refused said =
+      record {
+        answer = said ∙ sym (ap said_by refused);
+        «record» = sym (ap (left_by c) refused);
+        lists = λ p. sym (ap (λ (x : Outcome). lists_by (lists_of journal) i x p) refused);
+        owners = refl;
+        limit = refl;
+      }
 
   -- and so does every step of a cabinet whose list is not there
-  pub untouched : (y : ℕ) (o : Outcome) (e : Refusal) (r : Result Reply Refusal) → Err e ≡ listed owners ls i c (Ok y) → r ≡ Err e
-      → (r ≡ said_by (listed owners ls i c o)) × (c ≡ left_by c (listed owners ls i c o)) × ((p : ℕ) → ls p ≡ lists_by ls i (listed owners ls i c o) p)
-  untouched y o e r told = untouched_by (listed owners ls i c o) e r (listed_refused y o e told)
+  pub unlisted_over : (y : ℕ) (e : Refusal) (r : Result Reply Refusal) → Err e ≡ listed (owners_of journal) (lists_of journal) i c (Ok y) → r ≡ Err e → SteppedOver owners_of limit_of lists_of journal journal i c c r o
+  unlisted_over y e r told = refused_over e r (listed_refused (owners_of journal) (lists_of journal) i c y o e told)

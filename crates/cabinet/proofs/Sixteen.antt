@@ -1,7 +1,8 @@
 -- Loops over the sixteen acknowledged lengths. Assumes nothing.
-use Rattle.std.proofs.Common.{◌≡◌, ℕ, zero, suc, ◌+◌, ◌^◌, ◌≤◌, Bool, true, cond, ◌&&◌, ltb, leb, List, [], ◌∷◌, length, get_or, set, sym, refl, ap, ◌∙◌, ap₂, add-one, arith}
+use Rattle.std.proofs.Common.{◌≡◌, ℕ, zero, suc, ◌+◌, ◌*◌, ◌%◌, ◌^◌, ◌<◌, ◌≤◌, Bool, true, false, cond, ltb, List, [], ◌∷◌, length, get_or, set, sym, refl, ap, ◌∙◌, add-one, arith}
+use Rattle.std.proofs.lemmas.Nat.{one_shl}
+use mir.Val.{bool_byte}
 use Rattle.cabinet.specs.Records.{holders_below}
-use Rattle.cabinet.specs.Soundness.{none_above}
 
 -- to set a place past the end changes nothing
 pub set_past : (l : List ℕ) (i v : ℕ) → length l ≤ i → set l i v ≡ l
@@ -16,16 +17,11 @@ module _ (lengths : List ℕ) (n : ℕ) where
   holders_none = refl
 
   -- cabinet i is added where it acknowledged more
-  pub holders_more : (i set bit : ℕ) → set ≡ holders_below lengths n i → bit ≡ 2 ^ i → set + cond (ltb n (get_or lengths i 0)) bit 0 ≡ holders_below lengths n (i + 1)
+  pub holders_more : (i set : ℕ) → set ≡ holders_below lengths n i → set + cond (ltb n (get_or lengths i 0)) (2 ^ i) 0 ≡ holders_below lengths n (i + 1)
   unfolding holders_below
-  holders_more i s bit so_far is = ap₂ (λ a b. a + cond (ltb n (get_or lengths i 0)) b 0) so_far is ∙ sym (ap (holders_below lengths n) (add-one i))
+  holders_more i s so_far = ap (λ a. a + cond (ltb n (get_or lengths i 0)) (2 ^ i) 0) so_far ∙ sym (ap (holders_below lengths n) (add-one i))
 
-  -- of no lengths, none is above
-  pub above_none : none_above lengths n 0 ≡ true
-  unfolding none_above
-  above_none = refl
-
-  -- one length more is looked at
-  pub above_more : (i : ℕ) (sound : Bool) → sound ≡ none_above lengths n i → (sound && leb (get_or lengths i 0) n) ≡ none_above lengths n (i + 1)
-  unfolding none_above
-  above_more i sound so_far = ap (λ a. a && leb (get_or lengths i 0) n) so_far ∙ sym (ap (none_above lengths n) (add-one i))
+-- a bit that is shifted to its place where it is picked, and at most that bit
+pub picked_bit : (picked : Bool) (i : ℕ) → i < 16 → (bool_byte picked * 2 ^ i % 65536 ≡ cond picked (2 ^ i) 0) × (bool_byte picked * 2 ^ i % 65536 ≤ 2 ^ i)
+picked_bit true i small = let bit = one_shl i 16 small in (bit, omega (arith, bit))
+picked_bit false i small = (omega arith, omega arith)

@@ -1,5 +1,5 @@
 -- What the steps do to a cabinet's record, apart from its list. Assumes nothing.
-use Rattle.std.specs.Prelude.{ℕ, zero, suc, ◌+◌, ◌^◌, max, Bool, true, false, cond, List, replicate, Ok, Err, Result, bit_or, nat_lt, slice_index, slice_set}
+use Rattle.std.specs.Prelude.{◌≡◌, ℕ, zero, suc, ◌+◌, ◌^◌, max, Bool, true, false, cond, List, replicate, Ok, Err, Result, bit_or, nat_lt, slice_index, slice_set}
 use Rattle.refusal.specs.declared.Refusal.{Refusal}
 use Rattle.refusal.specs.declared.Refusal.TheVariants.{Stopped, Running}
 use Rattle.cabinet.specs.declared.Cabinet.{Cabinet}
@@ -70,3 +70,8 @@ after c (Err e) = c
 abbrev pub done : {A : Type 0} → Result A Refusal → Result (Unit {0}) Refusal
 done (Ok d) = Ok tt
 done (Err e) = Err e
+
+-- a record has been changed by a step that concerns it alone: the answer, and the record that is left
+pub record Changed (before left : Cabinet) (said : Result (Unit {0}) Refusal) (o : Result Cabinet Refusal) : Type 0 where
+  pub answer : said ≡ done o
+  pub «record» : left ≡ after before o

@@ -1,5 +1,5 @@
 ghost use Rattle.std.specs.Prelude.{◌≡◌};
-ghost use Rattle.cabinet.specs.Records.{follows, promises, raised, stop_step, start_step, after, done};
+ghost use Rattle.cabinet.specs.Records.{follows, promises, raised, stop_step, start_step, Changed};
 
 use crate::{Cabinet, FOLLOWS};
 use refusal::Refusal;
@@ -16,7 +16,7 @@ impl Cabinet {
 
     // Refused by 6 where it is stopped.
     pub fn stop(&mut self) -> Result<(), Refusal>
-        ensures { (result ≡ done (stop_step self.old)) × (self.new ≡ after self.old (stop_step self.old)) }
+        ensures { Changed self.old self.new result (stop_step self.old) }
     {
         if !self.running {
             return Err(Refusal::Stopped);
@@ -28,7 +28,7 @@ impl Cabinet {
 
     // Refused by 7 where it is running.
     pub fn start(&mut self) -> Result<(), Refusal>
-        ensures { (result ≡ done (start_step self.old)) × (self.new ≡ after self.old (start_step self.old)) }
+        ensures { Changed self.old self.new result (start_step self.old) }
     {
         if self.running {
             return Err(Refusal::Running);

@@ -12,15 +12,12 @@ pub fn next_epoch(promised: u32, cabinet: u8) -> Result<u32, Refusal>
     let owner = promised % 16;
     let cabinet = cabinet as u64;
     let round = if owner < cabinet { 0 } else { 16 };
-    match u32::try_from(promised - owner + cabinet + round) {
-        Ok(epoch) => Ok(epoch),
-        Err(_) => Err(Refusal::EpochsSpent),
-    }
+    u32::try_from(promised - owner + cabinet + round).map_err(|_| Refusal::EpochsSpent)
 }
 
 // Whether one's own pair of accepted epoch and length is later than the other, epoch first.
 pub fn is_later(own: (u32, u16), other: (u32, u16)) -> bool
     ensures { result ≡ later own other }
 {
-    other.0 < own.0 || (own.0 == other.0 && other.1 < own.1)
+    other < own
 }

@@ -8,28 +8,25 @@ impl Cabinet {
     fn has_sound_role(&self, cabinet: u8) -> bool
         ensures { result ≡ role_sound cabinet self.now }
     {
-        let own = (0 < self.promised) & (self.promised % 16 == cabinet as u32);
-        let leads = (self.role == LEADS) & (self.promised <= self.accepted);
-        (self.role == FOLLOWS) | (own & ((self.role == STANDS) | leads))
+        let own = 0 < self.promised && self.promised % 16 == cabinet as u32;
+        let leads = self.role == LEADS && self.promised <= self.accepted;
+        self.role == FOLLOWS || own && (self.role == STANDS || leads)
     }
 
     // Whether no acknowledged length is above the most.
     fn none_above(&self, most: u16) -> bool
-        ensures { result ≡ none_above self.now.acknowledged most 16 }
+        ensures { result ≡ none_above self.now.acknowledged most }
     {
-        let mut sound = true;
-        for i in 0..16usize {
-            sound = sound & (self.acknowledged[i] <= most);
-        }
-        sound
+        self.acknowledged.iter().all(|length| *length <= most)
     }
 
     // Whether the record is one that the cabinet may have beside a list of that length.
     pub fn is_sound(&self, cabinet: u8, length: u16) -> bool
         ensures { result ≡ record_sound cabinet length self.now }
     {
-        let mark = (1 <= self.mark) & (self.mark <= length);
-        let epochs = self.accepted <= self.promised;
-        mark & epochs & self.has_sound_role(cabinet) & self.none_above(length)
+        (1..=length).contains(&self.mark)
+            && self.accepted <= self.promised
+            && self.has_sound_role(cabinet)
+            && self.none_above(length)
     }
 }

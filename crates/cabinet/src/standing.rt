@@ -7,7 +7,7 @@ use crate::{Cabinet, LEADS, STANDS};
 fn only_one(cabinet: u8) -> u16
     ensures { result ≡ only cabinet }
 {
-    if cabinet < 16 { 1 << cabinet } else { 0 }
+    1u16.checked_shl(cabinet as u32).unwrap_or(0)
 }
 
 impl Cabinet {

@@ -1,5 +1,5 @@
 ghost use Rattle.std.specs.Prelude.{◌≡◌};
-ghost use Rattle.cabinet.specs.Records.{after, done};
+ghost use Rattle.cabinet.specs.Records.{Changed, after};
 ghost use Rattle.configurations.specs.Configurations.{front_answer};
 ghost use Rattle.committing.specs.Committing.{reached, rest_at, commit_answer, elected, win_answer};
 
@@ -34,15 +34,15 @@ pub fn rise<J: Journal, R: QuorumRule>(
     })
 }
 
-// Raises the mark as far as it goes; a leader outside the last committed configuration then follows.
+// Raises the mark as far as it goes; where it has moved, a leader outside the last committed configuration then follows.
 pub fn commit<J: Journal, R: QuorumRule>(
     cabinet: &mut Cabinet,
     number: u8,
     journal: &J,
     rule: &R,
 ) -> Result<(), Refusal>
-    ensures answer { result ≡ done (commit_answer (J.owners journal.now) (J.lists journal.now) (R.quorum rule.now) number cabinet.old) }
-    ensures record { cabinet.new ≡ after cabinet.old (commit_answer (J.owners journal.now) (J.lists journal.now) (R.quorum rule.now) number cabinet.old) }
+    ensures { Changed cabinet.old cabinet.new result
+        (commit_answer (J.owners journal.now) (J.lists journal.now) (R.quorum rule.now) number cabinet.old) }
 {
     let rest = rise(cabinet, number as u16, journal, rule)?;
     let moved = cabinet.mark < rest.mark;

@@ -15,12 +15,6 @@ fn count_of(entries: &[u8]) -> usize
     entries.len() / 16
 }
 
-fn is_same(a: Entry, b: Entry) -> bool
-    ensures { result ≡ same_entry a b }
-{
-    a.epoch == b.epoch && a.kind.number() == b.kind.number() && a.body == b.body
-}
-
 // Whether the first entries of the owner's list are those of a history.
 fn is_same_front<J: Journal>(
     journal: &J,
@@ -33,13 +27,14 @@ fn is_same_front<J: Journal>(
     requires history { count ≤ length (entries_of entries.now) }
     ensures { result ≡ Ok (same_front (J.lists journal.now owner) (entries_of entries.now) count) }
 {
-    let mut same = true;
     for k in 0..count {
         let own = journal.entry(owner, k)?;
         let new = entry(entries, k as usize)?;
-        same = same & is_same(own, new);
+        if own != new {
+            return Ok(false);
+        }
     }
-    Ok(same)
+    Ok(true)
 }
 
 // Whether a history has all that the cabinet knows to be committed.

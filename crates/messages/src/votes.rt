@@ -1,5 +1,3 @@
-ghost use Rattle.std.specs.Prelude.{◌≡◌};
-ghost use Rattle.cabinet.specs.Epochs.{later};
 ghost use Rattle.cabinet.specs.Steps.{Stepped};
 ghost use Rattle.messages.specs.Messages.{candidate_step, promise_step, acknowledge_step};
 
@@ -8,13 +6,6 @@ use committing::{commit, win};
 use journal::Journal;
 use quorum::QuorumRule;
 use refusal::Refusal;
-
-// Whether one's own pair of accepted epoch and length is later than a candidate's, whose length has 32 bits.
-fn is_later(own: (u32, u32), other: (u32, u32)) -> bool
-    ensures { result ≡ later own other }
-{
-    other.0 < own.0 || (own.0 == other.0 && other.1 < own.1)
-}
 
 // Answers a candidate by a promise, unless the cabinet's own list is later.
 pub fn take_candidate<J: Journal>(
@@ -28,11 +19,8 @@ pub fn take_candidate<J: Journal>(
     ensures { Stepped J.owners J.lists journal.now number cabinet.old cabinet.new result
         (candidate_step (J.lists journal.now number) cabinet.old epoch accepted length) }
 {
-    let own = (
-        cabinet.accepted,
-        cabinet.list_length(number, journal)? as u32,
-    );
-    if is_later(own, (accepted, length)) {
+    let own = cabinet.list_length(number, journal)? as u32;
+    if (accepted, length) < (cabinet.accepted, own) {
         return Err(Refusal::VoterAhead);
     }
     cabinet.promise(epoch);

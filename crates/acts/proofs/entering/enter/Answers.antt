@@ -7,19 +7,15 @@ use Rattle.cabinet.specs.declared.Cabinet.{Cabinet}
 use Rattle.cabinet.specs.declared.Reply.TheVariants.{Entry as Entered}
 use Rattle.cabinet.specs.Records.{raised, after, done}
 use Rattle.cabinet.specs.Steps.{left_by, lists_by, said_by}
-use Rattle.cabinet.proofs.Listed.{listed_tells, untouched}
-use Rattle.acts.specs.Acts.{entered, enter_step}
+use Rattle.cabinet.proofs.Listed.{listed_tells, unlisted_over}
+use Rattle.acts.specs.Acts.{entered}
 use Rattle.acts.proofs.Room.{append_told, append_refused, with_room, without_room, lists_with_room, lists_without_room, commit_entered}
 use Rattle.acts.proofs.entering.enter.Goals as goal
 
 pub returns-in_err-position : goal.returns-in_err-position
 returns-in_err-position g c =
     let error = err_from_is_err_and c.from_residual.result c.from_residual.ensures.1 in
-    let same =
-    untouched (g.J.Journal.owners c.args.journal.now) (g.J.Journal.lists c.args.journal.now) c.args.number c.args.cabinet.now (length (g.J.Journal.lists c.args.journal.now c.args.number))
-    (enter_step (g.R.QuorumRule.quorum c.args.rule.now) (g.J.Journal.limit c.args.journal.now) c.args.number (g.J.Journal.lists c.args.journal.now c.args.number) c.args.cabinet.now c.args.entry)
-    c.in_err-position.field-0.0 c.from_residual.result (sym c.in_err-position.was ∙ c.list_length.ensures) (error.1 ∙ ap (λ (r : Refusal). Err r) error.2) in
-    record { answer = same.0; «record» = same.1; lists = same.2; owners = refl; limit = refl }
+    unlisted_over _ _ _ _ _ _ _ _ c.in_err-position.field-0.0 c.from_residual.result (sym c.in_err-position.was ∙ c.list_length.ensures) (error.1 ∙ ap (λ (r : Refusal). Err r) error.2)
 
 pub returns-in_err-append : goal.returns-in_err-append
 returns-in_err-append g c =

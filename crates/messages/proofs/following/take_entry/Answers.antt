@@ -1,4 +1,4 @@
-use Rattle.std.proofs.Common.{◌≡◌, ℕ, ◌+◌, ◌≤◌, List, [], ◌∷◌, ◌++◌, length, Ok, Err, sym, refl, ap, ◌∙◌, arith}
+use Rattle.std.proofs.Common.{◌≡◌, ℕ, ◌+◌, ◌≤◌, List, [], ◌∷◌, ◌++◌, length, Ok, Err, sym, ap, ◌∙◌, arith}
 use Rattle.std.proofs.lemmas.List.{length_push}
 use Rattle.std.proofs.lemmas.Result.{err_from_is_err_and}
 use Rattle.refusal.specs.declared.Refusal.{Refusal}
@@ -6,7 +6,7 @@ use Rattle.journal.specs.declared.Entry.{Entry}
 use Rattle.cabinet.specs.declared.Cabinet.{Cabinet}
 use Rattle.cabinet.specs.declared.Reply.TheVariants.{Acknowledge}
 use Rattle.cabinet.specs.Steps.{left_by, lists_by, said_by}
-use Rattle.cabinet.proofs.Listed.{listed_ok, listed_tells, untouched}
+use Rattle.cabinet.proofs.Listed.{listed_ok, listed_tells, unlisted_over}
 use Rattle.acts.proofs.Room.{append_told, append_refused, lists_with_room, lists_without_room}
 use Rattle.messages.specs.Messages.{told_mark, entry_step}
 use Rattle.messages.proofs.Ends.{appended, refused_full}
@@ -15,11 +15,7 @@ use Rattle.messages.proofs.following.take_entry.Goals as goal
 pub returns-in_err-length : goal.returns-in_err-length
 returns-in_err-length g c =
     let error = err_from_is_err_and c.from_residual.result c.from_residual.ensures.1 in
-    let same =
-    untouched (g.J.Journal.owners c.args.journal.now) (g.J.Journal.lists c.args.journal.now) c.args.number c.args.cabinet.now (length (g.J.Journal.lists c.args.journal.now c.args.number))
-    (entry_step (g.J.Journal.limit c.args.journal.now) (g.J.Journal.lists c.args.journal.now c.args.number) c.args.cabinet.now c.args.position c.args.mark c.args.entry)
-    c.in_err-length.field-0.0 c.from_residual.result (sym c.in_err-length.was ∙ c.list_length.ensures) (error.1 ∙ ap (λ (r : Refusal). Err r) error.2) in
-    record { answer = same.0; «record» = same.1; lists = same.2; owners = refl; limit = refl }
+    unlisted_over _ _ _ _ _ _ _ _ c.in_err-length.field-0.0 c.from_residual.result (sym c.in_err-length.was ∙ c.list_length.ensures) (error.1 ∙ ap (λ (r : Refusal). Err r) error.2)
 
 pub returns-in_err-append : goal.returns-in_err-append
 returns-in_err-append g c =

@@ -1,21 +1,16 @@
-use Rattle.std.proofs.Common.{ℕ, ◌≤◌, List, length, Err, sym, refl, ap, ◌∙◌, arith}
+use Rattle.std.proofs.Common.{ℕ, ◌≤◌, List, length, Err, sym, ap, ◌∙◌, arith}
 use Rattle.std.proofs.lemmas.Result.{err_from_is_err_and}
 use Rattle.refusal.specs.declared.Refusal.{Refusal}
 use Rattle.journal.specs.declared.Entry.{Entry}
 use Rattle.entries.specs.Entries.{entries_of}
-use Rattle.cabinet.proofs.Listed.{listed_tells, untouched}
-use Rattle.messages.specs.Messages.{adopt_step}
+use Rattle.cabinet.proofs.Listed.{listed_tells, unlisted_over}
 use Rattle.messages.proofs.Fronts.{replace_fits}
 use Rattle.messages.proofs.histories.adopt.Goals as goal
 
 pub returns-in_err-list_length : goal.returns-in_err-list_length
 returns-in_err-list_length g c =
     let error = err_from_is_err_and c.from_residual.result c.from_residual.ensures.1 in
-    let same =
-    untouched (g.J.Journal.owners c.args.journal.now) (g.J.Journal.lists c.args.journal.now) c.args.number c.args.cabinet.now (length (g.J.Journal.lists c.args.journal.now c.args.number))
-    (adopt_step (g.J.Journal.limit c.args.journal.now) (g.J.Journal.lists c.args.journal.now c.args.number) c.args.cabinet.now c.args.epoch c.args.mark (entries_of c.args.entries.now))
-    c.in_err-list_length.field-0.0 c.from_residual.result (sym c.in_err-list_length.was ∙ c.list_length.ensures) (error.1 ∙ ap (λ (r : Refusal). Err r) error.2) in
-    record { answer = same.0; «record» = same.1; lists = same.2; owners = refl; limit = refl }
+    unlisted_over _ _ _ _ _ _ _ _ c.in_err-list_length.field-0.0 c.from_residual.result (sym c.in_err-list_length.was ∙ c.list_length.ensures) (error.1 ∙ ap (λ (r : Refusal). Err r) error.2)
 
 -- the history fits, so no replacement is refused
 pub returns-in_err-replace : goal.returns-in_err-replace
