@@ -1,5 +1,5 @@
 -- What a call asks of a cabinet before its step, and what receive does. Assumes nothing.
-use Rattle.std.specs.Prelude.{ℕ, Bool, ◌&&◌, List, length, Result, nat_le, nat_lt}
+use Rattle.std.specs.Prelude.{◌≡◌, ℕ, Bool, ◌&&◌, List, length, Result, nat_le, nat_lt}
 use Rattle.refusal.specs.declared.Refusal.{Refusal}
 use Rattle.refusal.specs.declared.Refusal.TheVariants.{OutOfBounds, NoCabinet, NoTray, Stopped, Unsound}
 use Rattle.refusal.specs.Answers.{and_then, unless}
@@ -9,7 +9,8 @@ use Rattle.entries.specs.Histories.{may_hold}
 use Rattle.frames.specs.Letters.{frame_length}
 use Rattle.cabinet.specs.declared.Cabinet.{Cabinet}
 use Rattle.cabinet.specs.Soundness.{record_sound}
-use Rattle.cabinet.specs.Steps.{Outcome}
+use Rattle.cabinet.specs.Steps.{Outcome, left_by, lists_by}
+use Rattle.writing.specs.Speaking.{answer_by, buffer_by}
 use Rattle.reactions.specs.Reactions.{hear_step}
 
 -- a sound cabinet: a record that goes with a list of its length, and a list that a history of its accepted epoch may hold
@@ -37,3 +38,12 @@ receive_step codes quorum cabinets owners limit i l c bytes room =
     and_then (unless (nat_le (tray_length limit) room) NoTray) (λ _.
     and_then (ready codes cabinets limit i l c) (λ _.
     hear_step codes quorum cabinets limit i l c bytes)))
+
+-- cabinet i has received bytes: the answer, and the record, the lists and the buffer that are left
+pub record Received {S : Type 0} (owners_of limit_of : S → ℕ) (lists_of : S → ℕ → List Entry) (old new : S) (i : ℕ) (before after : Cabinet) (out filled : List ℕ) (said : Result (ℕ × ℕ) Refusal) (o : Outcome) : Type 0 where
+  pub answer : said ≡ answer_by i o
+  pub «record» : after ≡ left_by before o
+  pub lists : (p : ℕ) → lists_of new p ≡ lists_by (lists_of old) i o p
+  pub owners : owners_of new ≡ owners_of old
+  pub limit : limit_of new ≡ limit_of old
+  pub buffer : filled ≡ buffer_by out i o

@@ -13,7 +13,7 @@ use refusal::Refusal;
 pub fn check_place(cabinets: u8, owners: u16, number: u8) -> Result<(), Refusal>
     ensures { result ≡ place cabinets owners number }
 {
-    if !(1 <= cabinets && cabinets <= 16 && cabinets as u16 <= owners) {
+    if !(1..=16).contains(&cabinets) || owners < cabinets as u16 {
         return Err(Refusal::OutOfBounds);
     }
     if number < cabinets {
@@ -35,7 +35,7 @@ fn is_sound<K: OrderKind, J: Journal>(
     let owner = number as u16;
     let length = journal.length(owner)?;
     let faultless = is_list_faultless::<K, J>(cabinets, cabinet.accepted, journal, owner)?;
-    Ok(cabinet.is_sound(number, length) & faultless)
+    Ok(cabinet.is_sound(number, length) && faultless)
 }
 
 // 2 for a cabinet without a list, 6 for one that is stopped, 8 for one that is not sound.

@@ -1,8 +1,6 @@
-ghost use Rattle.std.specs.Prelude.{◌≡◌, ℕ, length};
+ghost use Rattle.std.specs.Prelude.{◌≡◌, length};
 ghost use Rattle.entries.specs.Histories.{codes_of};
-ghost use Rattle.cabinet.specs.Steps.{left_by, lists_by};
-ghost use Rattle.writing.specs.Speaking.{answer_by, buffer_by};
-ghost use Rattle.receiving.specs.Readiness.{receive_step, tray_length};
+ghost use Rattle.receiving.specs.Readiness.{Received, receive_step, tray_length};
 
 use crate::readiness::{check_place, check_ready};
 use cabinet::Cabinet;
@@ -31,12 +29,8 @@ pub fn receive<K: OrderKind, J: Journal, R: QuorumRule>(
     bytes: &[u8],
     out: &mut [u8],
 ) -> Result<(u8, u16), Refusal>
-    ensures answer { result ≡ answer_by number (receive_step (codes_of K.decode) (R.quorum rule.now) cabinets (J.owners journal.old) (J.limit journal.old) number (J.lists journal.old number) cabinet.old bytes.now (length out.old)) }
-    ensures record { cabinet.new ≡ left_by cabinet.old (receive_step (codes_of K.decode) (R.quorum rule.now) cabinets (J.owners journal.old) (J.limit journal.old) number (J.lists journal.old number) cabinet.old bytes.now (length out.old)) }
-    ensures lists { (p : ℕ) → J.lists journal.new p ≡ lists_by (J.lists journal.old) number (receive_step (codes_of K.decode) (R.quorum rule.now) cabinets (J.owners journal.old) (J.limit journal.old) number (J.lists journal.old number) cabinet.old bytes.now (length out.old)) p }
-    ensures owners { J.owners journal.new ≡ J.owners journal.old }
-    ensures limit { J.limit journal.new ≡ J.limit journal.old }
-    ensures buffer { out.new ≡ buffer_by out.old number (receive_step (codes_of K.decode) (R.quorum rule.now) cabinets (J.owners journal.old) (J.limit journal.old) number (J.lists journal.old number) cabinet.old bytes.now (length out.old)) }
+    ensures { Received J.owners J.limit J.lists journal.old journal.new number cabinet.old cabinet.new out.old out.new result
+        (receive_step (codes_of K.decode) (R.quorum rule.now) cabinets (J.owners journal.old) (J.limit journal.old) number (J.lists journal.old number) cabinet.old bytes.now (length out.old)) }
 {
     check_place(cabinets, journal.owners(), number)?;
     if out.len() < tray_length(journal.limit()) {

@@ -1,5 +1,6 @@
 -- What a call leaves once its step is refused, or accepted and its words are written. Assumes nothing.
 use Rattle.std.proofs.Common.{◌≡◌, ℕ, ◌+◌, ◌<◌, ◌≤◌, List, length, set, Some, None, Ok, Err, Option, Result, sym, refl, ap, ◌∙◌, arith}
+use Rattle.std.proofs.Math.Path.{fun_ext}
 use Rattle.refusal.specs.declared.Refusal.{Refusal}
 use Rattle.refusal.specs.Answers.{and_then}
 use Rattle.journal.specs.declared.Entry.{Entry}
@@ -13,7 +14,7 @@ use Rattle.writing.specs.Replies.{filled_by}
 use Rattle.receiving.specs.Readiness.{tray_length}
 use Rattle.receiving.proofs.Naming.{Names}
 use Rattle.receiving.proofs.Answering.{spoken, refused_step}
-use Rattle.calls.specs.Stations.{Station, cabinet_at, tray_at, tray_start, trays_after, station_after}
+use Rattle.calls.specs.Stations.{Station, station, cabinet_at, tray_at, tray_start, trays_after, station_after}
 use Rattle.calls.proofs.Trays.{over_same, part_long}
 use Rattle.station.specs.Acting.{said_answer, said_trays}
 use Rattle.station.proofs.Refusing.{same_table}
@@ -27,6 +28,29 @@ trays_said s k (Some t) room = refl
 lists_left : (s : Station) (i k : ℕ) (o : Outcome) (p : ℕ) → lists_by s.lists i o p ≡ (station_after s i k o).lists p
 lists_left s i k (Ok step) p = refl
 lists_left s i k (Err e) p = refl
+
+-- a call leaves a journal's owners and limit as they were
+owners_left : (s : Station) (i k : ℕ) (o : Outcome) → s.owners ≡ (station_after s i k o).owners
+owners_left s i k (Ok step) = refl
+owners_left s i k (Err e) = refl
+
+limit_left : (s : Station) (i k : ℕ) (o : Outcome) → s.limit ≡ (station_after s i k o).limit
+limit_left s i k (Ok step) = refl
+limit_left s i k (Err e) = refl
+
+-- the station that a call leaves, part by part
+pub station_left : (s : Station) (i k : ℕ) (o : Outcome) (table : List Cabinet) (owners limit : ℕ) (lists : ℕ → List Entry) (trays : List ℕ)
+    → table ≡ (station_after s i k o).table → owners ≡ s.owners → limit ≡ s.limit → ((p : ℕ) → lists p ≡ (station_after s i k o).lists p) → trays ≡ (station_after s i k o).trays
+    → station table owners limit lists trays ≡ station_after s i k o
+station_left s i k o table owners limit lists trays same_table same_owners same_limit same_lists same_trays =
+    ap (λ t. station t owners limit lists trays) same_table
+    ∙ ap (λ n. station left.table n limit lists trays) (same_owners ∙ owners_left s i k o)
+    ∙ ap (λ n. station left.table left.owners n lists trays) (same_limit ∙ limit_left s i k o)
+    ∙ ap (λ ls. station left.table left.owners left.limit ls trays) (fun_ext same_lists)
+    ∙ ap (station left.table left.owners left.limit left.lists) same_trays
+  where
+    left : Station
+    left = station_after s i k o
 
 module _ (s : Station) (i k : ℕ) (d : Cabinet) where
   -- a step that is refused leaves all as it was

@@ -8,16 +8,18 @@ use Rattle.refusal.specs.Answers.{and_then, unless}
 use Rattle.journal.specs.declared.Entry.{Entry}
 use Rattle.cabinet.specs.declared.Cabinet.{Cabinet}
 use Rattle.cabinet.specs.declared.Reply.TheVariants.{Nothing}
-use Rattle.cabinet.specs.Records.{done}
+use Rattle.cabinet.specs.Records.{after, done}
 use Rattle.cabinet.specs.Steps.{Outcome, leaves, left_by, listed}
 use Rattle.acts.specs.Acts.{refresh_step, says_history}
 use Rattle.cabinet.proofs.Listed.{listed_ok}
 use Rattle.receiving.specs.Readiness.{tray_length}
-use Rattle.calls.specs.Stations.{Station, cabinets, cabinet_at, in_bounds, named, has_tray, ready_at, no_cabinet, tray_start, tray_count}
+use Rattle.calls.specs.Stations.{Station, station, station_after, cabinets, cabinet_at, in_bounds, named, has_tray, ready_at, no_cabinet, tray_start, tray_count}
 use Rattle.calls.specs.Calls.{acting, switching}
 use Rattle.calls.proofs.Trays.{tray_within}
 use Rattle.receiving.proofs.Passing.{ready_tells}
 use Rattle.station.specs.Acting.{called}
+use Rattle.station.specs.Calling.{Ended}
+use Rattle.writing.specs.Speaking.{answer_by}
 
 -- a table with a record written again where it was is the same
 pub same_table : (table : List Cabinet) (i : ℕ) (d : Cabinet) → d ≡ get_or table i no_cabinet → set table i d ≡ table
@@ -33,6 +35,18 @@ pub switch_refused : (s : Station) (i : ℕ) (step : Result Cabinet Refusal) (e 
 switch_refused s i step e named_ok refused =
     sym (ap (λ (r : Result (Unit {0}) Refusal). and_then r (λ _. and_then step (λ d. Ok (leaves d (s.lists i) Nothing)))) named_ok)
     ∙ ap (λ (r : Result Cabinet Refusal). and_then r (λ d. Ok (leaves d (s.lists i) Nothing))) refused
+
+-- and leaves the station as it was
+pub switch_ended : (s : Station) (i : ℕ) (d : Cabinet) (step : Result Cabinet Refusal) (call : Station → Outcome) (e : Refusal) (r : Result (ℕ × ℕ) Refusal)
+    → call s ≡ switching s i step → Ok tt ≡ named s i → Err e ≡ done step → d ≡ after (cabinet_at s i) step → r ≡ Err e
+    → Ended s (station (set s.table i d) s.owners s.limit s.lists s.trays) i 0 r call
+switch_ended s i d step call e r meant named_ok told left said =
+    let refused = done_refused step e told in
+    let whole = meant ∙ switch_refused s i step e named_ok refused in
+    record {
+      answer = said ∙ sym (ap (answer_by i) whole);
+      station = ap (λ t. station t s.owners s.limit s.lists s.trays) (same_table s.table i d (left ∙ ap (after (cabinet_at s i)) refused)) ∙ sym (ap (station_after s i 0) whole);
+    }
 
 -- what follows an accepted answer was accepted, and so was the answer
 pub both_accepted : {A : Type 0} (a : Result (Unit {0}) Refusal) (f : Unit {0} → Result A Refusal) (x : A) → Ok x ≡ and_then a f → (Ok tt ≡ a) × (Ok x ≡ f tt)

@@ -1,10 +1,10 @@
 ghost use Rattle.std.specs.Prelude.{◌≡◌, ℕ};
 ghost use Rattle.entries.specs.Histories.{codes_of};
-ghost use Rattle.cabinet.specs.Steps.{left_by, listed, lists_by, said_by};
-ghost use Rattle.writing.specs.Speaking.{answer_by};
-ghost use Rattle.calls.specs.Stations.{station, station_after, cabinets, cabinet_at};
+ghost use Rattle.calls.specs.Stations.{cabinets, cabinet_at};
 ghost use Rattle.calls.specs.Calls.{acting, kind_of};
 ghost use Rattle.station.specs.Acting.{act_step};
+ghost use Rattle.cabinet.specs.Steps.{SteppedOver};
+ghost use Rattle.station.specs.Calling.{Ended, parts};
 
 use crate::Act;
 use crate::checks::check_call;
@@ -24,11 +24,8 @@ fn act<K: OrderKind, J: Journal, R: QuorumRule>(
     rule: &R,
     act: &Act<K>,
 ) -> Result<Reply, Refusal>
-    ensures answer { result ≡ said_by (listed (J.owners journal.old) (J.lists journal.old) number cabinet.old (act_step (kind_of K.proper K.encode K.decode) (R.quorum rule.now) (J.limit journal.old) cabinets number (J.lists journal.old number) cabinet.old act.now)) }
-    ensures record { cabinet.new ≡ left_by cabinet.old (listed (J.owners journal.old) (J.lists journal.old) number cabinet.old (act_step (kind_of K.proper K.encode K.decode) (R.quorum rule.now) (J.limit journal.old) cabinets number (J.lists journal.old number) cabinet.old act.now)) }
-    ensures lists { (p : ℕ) → J.lists journal.new p ≡ lists_by (J.lists journal.old) number (listed (J.owners journal.old) (J.lists journal.old) number cabinet.old (act_step (kind_of K.proper K.encode K.decode) (R.quorum rule.now) (J.limit journal.old) cabinets number (J.lists journal.old number) cabinet.old act.now)) p }
-    ensures owners { J.owners journal.new ≡ J.owners journal.old }
-    ensures limit { J.limit journal.new ≡ J.limit journal.old }
+    ensures { SteppedOver J.owners J.limit J.lists journal.old journal.new number cabinet.old cabinet.new result
+        (act_step (kind_of K.proper K.encode K.decode) (R.quorum rule.now) (J.limit journal.old) cabinets number (J.lists journal.old number) cabinet.old act.now) }
 {
     match *act {
         Act::Stand => acts::stand(cabinet, number, journal, rule),
@@ -50,12 +47,9 @@ pub(crate) fn perform<K: OrderKind, J: Journal, R: QuorumRule>(
     tray: u8,
     step: &Act<K>,
 ) -> Result<(u8, u16), Refusal>
-    ensures answer { result ≡ answer_by number (acting (codes_of K.decode) (station table.old (J.owners journal.old) (J.limit journal.old) (J.lists journal.old) trays.old) number tray (act_step (kind_of K.proper K.encode K.decode) (R.quorum rule.now) (J.limit journal.old) (cabinets (station table.old (J.owners journal.old) (J.limit journal.old) (J.lists journal.old) trays.old)) number (J.lists journal.old number) (cabinet_at (station table.old (J.owners journal.old) (J.limit journal.old) (J.lists journal.old) trays.old) number) step.now)) }
-    ensures table { table.new ≡ (station_after (station table.old (J.owners journal.old) (J.limit journal.old) (J.lists journal.old) trays.old) number tray (acting (codes_of K.decode) (station table.old (J.owners journal.old) (J.limit journal.old) (J.lists journal.old) trays.old) number tray (act_step (kind_of K.proper K.encode K.decode) (R.quorum rule.now) (J.limit journal.old) (cabinets (station table.old (J.owners journal.old) (J.limit journal.old) (J.lists journal.old) trays.old)) number (J.lists journal.old number) (cabinet_at (station table.old (J.owners journal.old) (J.limit journal.old) (J.lists journal.old) trays.old) number) step.now))).table }
-    ensures lists { (p : ℕ) → J.lists journal.new p ≡ (station_after (station table.old (J.owners journal.old) (J.limit journal.old) (J.lists journal.old) trays.old) number tray (acting (codes_of K.decode) (station table.old (J.owners journal.old) (J.limit journal.old) (J.lists journal.old) trays.old) number tray (act_step (kind_of K.proper K.encode K.decode) (R.quorum rule.now) (J.limit journal.old) (cabinets (station table.old (J.owners journal.old) (J.limit journal.old) (J.lists journal.old) trays.old)) number (J.lists journal.old number) (cabinet_at (station table.old (J.owners journal.old) (J.limit journal.old) (J.lists journal.old) trays.old) number) step.now))).lists p }
-    ensures owners { J.owners journal.new ≡ J.owners journal.old }
-    ensures limit { J.limit journal.new ≡ J.limit journal.old }
-    ensures trays { trays.new ≡ (station_after (station table.old (J.owners journal.old) (J.limit journal.old) (J.lists journal.old) trays.old) number tray (acting (codes_of K.decode) (station table.old (J.owners journal.old) (J.limit journal.old) (J.lists journal.old) trays.old) number tray (act_step (kind_of K.proper K.encode K.decode) (R.quorum rule.now) (J.limit journal.old) (cabinets (station table.old (J.owners journal.old) (J.limit journal.old) (J.lists journal.old) trays.old)) number (J.lists journal.old number) (cabinet_at (station table.old (J.owners journal.old) (J.limit journal.old) (J.lists journal.old) trays.old) number) step.now))).trays }
+    ensures { Ended (parts J.owners J.limit J.lists table.old journal.old trays.old)
+        (parts J.owners J.limit J.lists table.new journal.new trays.new) number tray result
+        (λ s. acting (codes_of K.decode) s number tray (act_step (kind_of K.proper K.encode K.decode) (R.quorum rule.now) s.limit (cabinets s) number (s.lists number) (cabinet_at s number) step.now)) }
 {
     check_call::<K, J>(table, journal, trays, number, tray)?;
     let cabinets = table.len() as u8;

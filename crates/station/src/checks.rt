@@ -1,7 +1,8 @@
 ghost use Rattle.std.specs.Prelude.{◌≡◌};
 ghost use Rattle.entries.specs.Histories.{codes_of};
-ghost use Rattle.calls.specs.Stations.{station, in_bounds, named, has_tray};
+ghost use Rattle.calls.specs.Stations.{in_bounds, named, has_tray};
 ghost use Rattle.station.specs.Acting.{called};
+ghost use Rattle.station.specs.Calling.{parts};
 
 use cabinet::Cabinet;
 use journal::Journal;
@@ -11,7 +12,7 @@ use refusal::Refusal;
 
 // Whether every part is within its bounds.
 pub(crate) fn is_in_bounds<J: Journal>(table: &[Cabinet], journal: &J, trays: &[u8]) -> bool
-    ensures { result ≡ in_bounds (station table.now (J.owners journal.now) (J.limit journal.now) (J.lists journal.now) trays.now) }
+    ensures { result ≡ in_bounds (parts J.owners J.limit J.lists table.now journal.now trays.now) }
 {
     let limit = journal.limit();
     let size = tray_length(limit);
@@ -31,7 +32,7 @@ pub(crate) fn check_named<J: Journal>(
     trays: &[u8],
     number: u8,
 ) -> Result<(), Refusal>
-    ensures { result ≡ named (station table.now (J.owners journal.now) (J.limit journal.now) (J.lists journal.now) trays.now) number }
+    ensures { result ≡ named (parts J.owners J.limit J.lists table.now journal.now trays.now) number }
 {
     if !is_in_bounds(table, journal, trays) {
         return Err(Refusal::OutOfBounds);
@@ -50,7 +51,7 @@ pub(crate) fn check_tray<J: Journal>(
     trays: &[u8],
     tray: u8,
 ) -> Result<(), Refusal>
-    ensures { result ≡ has_tray (station table.now (J.owners journal.now) (J.limit journal.now) (J.lists journal.now) trays.now) tray }
+    ensures { result ≡ has_tray (parts J.owners J.limit J.lists table.now journal.now trays.now) tray }
 {
     if (tray as usize) < trays.len() / tray_length(journal.limit()) {
         Ok(())
@@ -67,7 +68,7 @@ pub(crate) fn check_call<K: OrderKind, J: Journal>(
     number: u8,
     tray: u8,
 ) -> Result<(), Refusal>
-    ensures { result ≡ called (codes_of K.decode) (station table.now (J.owners journal.now) (J.limit journal.now) (J.lists journal.now) trays.now) number tray }
+    ensures { result ≡ called (codes_of K.decode) (parts J.owners J.limit J.lists table.now journal.now trays.now) number tray }
 {
     check_named(table, journal, trays, number)?;
     check_tray(table, journal, trays, tray)?;

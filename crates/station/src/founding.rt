@@ -1,6 +1,7 @@
 ghost use Rattle.std.specs.Prelude.{◌≡◌, ℕ, ◌≤◌, [], ◌∷◌, if◌then◌else◌, Ok, nat_eq, nat_lt};
 ghost use Rattle.journal.specs.Lists.{owned};
-ghost use Rattle.calls.specs.Stations.{station, found_answer, found_reply, founding_entry, new_cabinet, station_founded};
+ghost use Rattle.calls.specs.Stations.{found_answer, founding_entry, new_cabinet};
+ghost use Rattle.station.specs.Calling.{Founded, parts};
 
 use crate::checks::is_in_bounds;
 use cabinet::{Cabinet, FOLLOWS};
@@ -43,7 +44,7 @@ fn check_found<J: Journal, R: QuorumRule>(
     rule: &R,
     members: u16,
 ) -> Result<(), Refusal>
-    ensures { result ≡ found_answer (R.quorum rule.now) (station table.now (J.owners journal.now) (J.limit journal.now) (J.lists journal.now) trays.now) members }
+    ensures { result ≡ found_answer (R.quorum rule.now) (parts J.owners J.limit J.lists table.now journal.now trays.now) members }
 {
     if !is_in_bounds(table, journal, trays) {
         return Err(Refusal::OutOfBounds);
@@ -89,12 +90,8 @@ pub fn found<J: Journal, R: QuorumRule>(
     rule: &R,
     members: u16,
 ) -> Result<(u8, u16), Refusal>
-    ensures answer { result ≡ found_reply (found_answer (R.quorum rule.now) (station table.old (J.owners journal.old) (J.limit journal.old) (J.lists journal.old) trays.old) members) }
-    ensures table { table.new ≡ (station_founded (station table.old (J.owners journal.old) (J.limit journal.old) (J.lists journal.old) trays.old) members (found_answer (R.quorum rule.now) (station table.old (J.owners journal.old) (J.limit journal.old) (J.lists journal.old) trays.old) members)).table }
-    ensures lists { (p : ℕ) → J.lists journal.new p ≡ (station_founded (station table.old (J.owners journal.old) (J.limit journal.old) (J.lists journal.old) trays.old) members (found_answer (R.quorum rule.now) (station table.old (J.owners journal.old) (J.limit journal.old) (J.lists journal.old) trays.old) members)).lists p }
-    ensures owners { J.owners journal.new ≡ J.owners journal.old }
-    ensures limit { J.limit journal.new ≡ J.limit journal.old }
-    ensures trays { trays.new ≡ (station_founded (station table.old (J.owners journal.old) (J.limit journal.old) (J.lists journal.old) trays.old) members (found_answer (R.quorum rule.now) (station table.old (J.owners journal.old) (J.limit journal.old) (J.lists journal.old) trays.old) members)).trays }
+    ensures { Founded (R.quorum rule.now) (parts J.owners J.limit J.lists table.old journal.old trays.old)
+        (parts J.owners J.limit J.lists table.new journal.new trays.new) members result }
 {
     check_found(table, journal, trays, rule, members)?;
     open_lists(journal, table.len() as u16, founding(members))?;

@@ -3,10 +3,9 @@ ghost use Rattle.refusal.specs.Answers.{unless};
 ghost use Rattle.refusal.specs.declared.Refusal.TheVariants.{EmptyTray};
 ghost use Rattle.receiving.specs.Readiness.{tray_length};
 ghost use Rattle.entries.specs.Histories.{codes_of};
-ghost use Rattle.writing.specs.Speaking.{answer_by};
-ghost use Rattle.calls.specs.Stations.{station, station_after};
 ghost use Rattle.calls.specs.Calls.{hand_call};
 ghost use Rattle.station.specs.Acting.{handed, part};
+ghost use Rattle.station.specs.Calling.{Ended, parts};
 
 use crate::checks::{check_named, check_tray};
 use crate::trays::say;
@@ -39,7 +38,7 @@ fn check_hand<K: OrderKind, J: Journal>(
     cabinet: u8,
     to: u8,
 ) -> Result<(), Refusal>
-    ensures { result ≡ handed (codes_of K.decode) (station table.now (J.owners journal.now) (J.limit journal.now) (J.lists journal.now) trays.now) from cabinet to }
+    ensures { result ≡ handed (codes_of K.decode) (parts J.owners J.limit J.lists table.now journal.now trays.now) from cabinet to }
 {
     check_named(table, journal, trays, cabinet)?;
     check_tray(table, journal, trays, from)?;
@@ -63,12 +62,9 @@ pub fn hand<K: OrderKind, J: Journal, R: QuorumRule>(
     cabinet: u8,
     to: u8,
 ) -> Result<(u8, u16), Refusal>
-    ensures answer { result ≡ answer_by cabinet (hand_call (codes_of K.decode) (R.quorum rule.now) (station table.old (J.owners journal.old) (J.limit journal.old) (J.lists journal.old) trays.old) from cabinet to) }
-    ensures table { table.new ≡ (station_after (station table.old (J.owners journal.old) (J.limit journal.old) (J.lists journal.old) trays.old) cabinet to (hand_call (codes_of K.decode) (R.quorum rule.now) (station table.old (J.owners journal.old) (J.limit journal.old) (J.lists journal.old) trays.old) from cabinet to)).table }
-    ensures lists { (p : ℕ) → J.lists journal.new p ≡ (station_after (station table.old (J.owners journal.old) (J.limit journal.old) (J.lists journal.old) trays.old) cabinet to (hand_call (codes_of K.decode) (R.quorum rule.now) (station table.old (J.owners journal.old) (J.limit journal.old) (J.lists journal.old) trays.old) from cabinet to)).lists p }
-    ensures owners { J.owners journal.new ≡ J.owners journal.old }
-    ensures limit { J.limit journal.new ≡ J.limit journal.old }
-    ensures trays { trays.new ≡ (station_after (station table.old (J.owners journal.old) (J.limit journal.old) (J.lists journal.old) trays.old) cabinet to (hand_call (codes_of K.decode) (R.quorum rule.now) (station table.old (J.owners journal.old) (J.limit journal.old) (J.lists journal.old) trays.old) from cabinet to)).trays }
+    ensures { Ended (parts J.owners J.limit J.lists table.old journal.old trays.old)
+        (parts J.owners J.limit J.lists table.new journal.new trays.new) cabinet to result
+        (λ s. hand_call (codes_of K.decode) (R.quorum rule.now) s from cabinet to) }
 {
     check_hand::<K, J>(table, journal, trays, from, cabinet, to)?;
     let cabinets = table.len() as u8;

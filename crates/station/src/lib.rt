@@ -16,7 +16,7 @@ pub use switching::{start, stop};
 
 // What a cabinet does of itself.
 #[derive(Clone, Copy)]
-pub enum Act<K> {
+pub(crate) enum Act<K> {
     Stand,
     Submit(K),
     Change { version: u32, members: u16 },

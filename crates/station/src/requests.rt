@@ -1,8 +1,7 @@
 ghost use Rattle.std.specs.Prelude.{◌≡◌, ℕ};
 ghost use Rattle.entries.specs.Histories.{codes_of};
-ghost use Rattle.writing.specs.Speaking.{answer_by};
-ghost use Rattle.calls.specs.Stations.{station, station_after};
 ghost use Rattle.calls.specs.Calls.{stand_call, submit_call, change_call, refresh_call, kind_of};
+ghost use Rattle.station.specs.Calling.{Ended, parts};
 
 use crate::Act;
 use crate::acting::perform;
@@ -21,12 +20,9 @@ pub fn stand<K: OrderKind, J: Journal, R: QuorumRule>(
     cabinet: u8,
     tray: u8,
 ) -> Result<(u8, u16), Refusal>
-    ensures answer { result ≡ answer_by cabinet (stand_call (codes_of K.decode) (R.quorum rule.now) (station table.old (J.owners journal.old) (J.limit journal.old) (J.lists journal.old) trays.old) cabinet tray) }
-    ensures table { table.new ≡ (station_after (station table.old (J.owners journal.old) (J.limit journal.old) (J.lists journal.old) trays.old) cabinet tray (stand_call (codes_of K.decode) (R.quorum rule.now) (station table.old (J.owners journal.old) (J.limit journal.old) (J.lists journal.old) trays.old) cabinet tray)).table }
-    ensures lists { (p : ℕ) → J.lists journal.new p ≡ (station_after (station table.old (J.owners journal.old) (J.limit journal.old) (J.lists journal.old) trays.old) cabinet tray (stand_call (codes_of K.decode) (R.quorum rule.now) (station table.old (J.owners journal.old) (J.limit journal.old) (J.lists journal.old) trays.old) cabinet tray)).lists p }
-    ensures owners { J.owners journal.new ≡ J.owners journal.old }
-    ensures limit { J.limit journal.new ≡ J.limit journal.old }
-    ensures trays { trays.new ≡ (station_after (station table.old (J.owners journal.old) (J.limit journal.old) (J.lists journal.old) trays.old) cabinet tray (stand_call (codes_of K.decode) (R.quorum rule.now) (station table.old (J.owners journal.old) (J.limit journal.old) (J.lists journal.old) trays.old) cabinet tray)).trays }
+    ensures { Ended (parts J.owners J.limit J.lists table.old journal.old trays.old)
+        (parts J.owners J.limit J.lists table.new journal.new trays.new) cabinet tray result
+        (λ s. stand_call (codes_of K.decode) (R.quorum rule.now) s cabinet tray) }
 {
     let act = Act::Stand;
     perform::<K, J, R>(table, journal, trays, rule, cabinet, tray, &act)
@@ -42,12 +38,9 @@ pub fn submit<K: OrderKind, J: Journal, R: QuorumRule>(
     order: K,
     tray: u8,
 ) -> Result<(u8, u16), Refusal>
-    ensures answer { result ≡ answer_by cabinet (submit_call (kind_of K.proper K.encode K.decode) (R.quorum rule.now) (station table.old (J.owners journal.old) (J.limit journal.old) (J.lists journal.old) trays.old) cabinet order tray) }
-    ensures table { table.new ≡ (station_after (station table.old (J.owners journal.old) (J.limit journal.old) (J.lists journal.old) trays.old) cabinet tray (submit_call (kind_of K.proper K.encode K.decode) (R.quorum rule.now) (station table.old (J.owners journal.old) (J.limit journal.old) (J.lists journal.old) trays.old) cabinet order tray)).table }
-    ensures lists { (p : ℕ) → J.lists journal.new p ≡ (station_after (station table.old (J.owners journal.old) (J.limit journal.old) (J.lists journal.old) trays.old) cabinet tray (submit_call (kind_of K.proper K.encode K.decode) (R.quorum rule.now) (station table.old (J.owners journal.old) (J.limit journal.old) (J.lists journal.old) trays.old) cabinet order tray)).lists p }
-    ensures owners { J.owners journal.new ≡ J.owners journal.old }
-    ensures limit { J.limit journal.new ≡ J.limit journal.old }
-    ensures trays { trays.new ≡ (station_after (station table.old (J.owners journal.old) (J.limit journal.old) (J.lists journal.old) trays.old) cabinet tray (submit_call (kind_of K.proper K.encode K.decode) (R.quorum rule.now) (station table.old (J.owners journal.old) (J.limit journal.old) (J.lists journal.old) trays.old) cabinet order tray)).trays }
+    ensures { Ended (parts J.owners J.limit J.lists table.old journal.old trays.old)
+        (parts J.owners J.limit J.lists table.new journal.new trays.new) cabinet tray result
+        (λ s. submit_call (kind_of K.proper K.encode K.decode) (R.quorum rule.now) s cabinet order tray) }
 {
     let act = Act::Submit(order);
     perform::<K, J, R>(table, journal, trays, rule, cabinet, tray, &act)
@@ -64,12 +57,9 @@ pub fn change<K: OrderKind, J: Journal, R: QuorumRule>(
     members: u16,
     tray: u8,
 ) -> Result<(u8, u16), Refusal>
-    ensures answer { result ≡ answer_by cabinet (change_call (codes_of K.decode) (R.quorum rule.now) (station table.old (J.owners journal.old) (J.limit journal.old) (J.lists journal.old) trays.old) cabinet version members tray) }
-    ensures table { table.new ≡ (station_after (station table.old (J.owners journal.old) (J.limit journal.old) (J.lists journal.old) trays.old) cabinet tray (change_call (codes_of K.decode) (R.quorum rule.now) (station table.old (J.owners journal.old) (J.limit journal.old) (J.lists journal.old) trays.old) cabinet version members tray)).table }
-    ensures lists { (p : ℕ) → J.lists journal.new p ≡ (station_after (station table.old (J.owners journal.old) (J.limit journal.old) (J.lists journal.old) trays.old) cabinet tray (change_call (codes_of K.decode) (R.quorum rule.now) (station table.old (J.owners journal.old) (J.limit journal.old) (J.lists journal.old) trays.old) cabinet version members tray)).lists p }
-    ensures owners { J.owners journal.new ≡ J.owners journal.old }
-    ensures limit { J.limit journal.new ≡ J.limit journal.old }
-    ensures trays { trays.new ≡ (station_after (station table.old (J.owners journal.old) (J.limit journal.old) (J.lists journal.old) trays.old) cabinet tray (change_call (codes_of K.decode) (R.quorum rule.now) (station table.old (J.owners journal.old) (J.limit journal.old) (J.lists journal.old) trays.old) cabinet version members tray)).trays }
+    ensures { Ended (parts J.owners J.limit J.lists table.old journal.old trays.old)
+        (parts J.owners J.limit J.lists table.new journal.new trays.new) cabinet tray result
+        (λ s. change_call (codes_of K.decode) (R.quorum rule.now) s cabinet version members tray) }
 {
     let act = Act::Change { version, members };
     perform::<K, J, R>(table, journal, trays, rule, cabinet, tray, &act)
@@ -84,12 +74,9 @@ pub fn refresh<K: OrderKind, J: Journal, R: QuorumRule>(
     cabinet: u8,
     tray: u8,
 ) -> Result<(u8, u16), Refusal>
-    ensures answer { result ≡ answer_by cabinet (refresh_call (codes_of K.decode) (station table.old (J.owners journal.old) (J.limit journal.old) (J.lists journal.old) trays.old) cabinet tray) }
-    ensures table { table.new ≡ (station_after (station table.old (J.owners journal.old) (J.limit journal.old) (J.lists journal.old) trays.old) cabinet tray (refresh_call (codes_of K.decode) (station table.old (J.owners journal.old) (J.limit journal.old) (J.lists journal.old) trays.old) cabinet tray)).table }
-    ensures lists { (p : ℕ) → J.lists journal.new p ≡ (station_after (station table.old (J.owners journal.old) (J.limit journal.old) (J.lists journal.old) trays.old) cabinet tray (refresh_call (codes_of K.decode) (station table.old (J.owners journal.old) (J.limit journal.old) (J.lists journal.old) trays.old) cabinet tray)).lists p }
-    ensures owners { J.owners journal.new ≡ J.owners journal.old }
-    ensures limit { J.limit journal.new ≡ J.limit journal.old }
-    ensures trays { trays.new ≡ (station_after (station table.old (J.owners journal.old) (J.limit journal.old) (J.lists journal.old) trays.old) cabinet tray (refresh_call (codes_of K.decode) (station table.old (J.owners journal.old) (J.limit journal.old) (J.lists journal.old) trays.old) cabinet tray)).trays }
+    ensures { Ended (parts J.owners J.limit J.lists table.old journal.old trays.old)
+        (parts J.owners J.limit J.lists table.new journal.new trays.new) cabinet tray result
+        (λ s. refresh_call (codes_of K.decode) s cabinet tray) }
 {
     let act = Act::Refresh;
     perform::<K, J, R>(table, journal, trays, rule, cabinet, tray, &act)

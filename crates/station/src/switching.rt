@@ -1,7 +1,6 @@
 ghost use Rattle.std.specs.Prelude.{◌≡◌};
-ghost use Rattle.writing.specs.Speaking.{answer_by};
-ghost use Rattle.calls.specs.Stations.{station, station_after};
 ghost use Rattle.calls.specs.Calls.{stop_call, start_call};
+ghost use Rattle.station.specs.Calling.{Ended, parts};
 
 use crate::checks::check_named;
 use cabinet::Cabinet;
@@ -15,8 +14,9 @@ pub fn stop<J: Journal>(
     trays: &[u8],
     cabinet: u8,
 ) -> Result<(u8, u16), Refusal>
-    ensures answer { result ≡ answer_by cabinet (stop_call (station table.old (J.owners journal.now) (J.limit journal.now) (J.lists journal.now) trays.now) cabinet) }
-    ensures table { table.new ≡ (station_after (station table.old (J.owners journal.now) (J.limit journal.now) (J.lists journal.now) trays.now) cabinet 0 (stop_call (station table.old (J.owners journal.now) (J.limit journal.now) (J.lists journal.now) trays.now) cabinet)).table }
+    ensures { Ended (parts J.owners J.limit J.lists table.old journal.now trays.now)
+        (parts J.owners J.limit J.lists table.new journal.now trays.now) cabinet 0 result
+        (λ s. stop_call s cabinet) }
 {
     check_named(table, journal, trays, cabinet)?;
     table[cabinet as usize].stop()?;
@@ -30,8 +30,9 @@ pub fn start<J: Journal>(
     trays: &[u8],
     cabinet: u8,
 ) -> Result<(u8, u16), Refusal>
-    ensures answer { result ≡ answer_by cabinet (start_call (station table.old (J.owners journal.now) (J.limit journal.now) (J.lists journal.now) trays.now) cabinet) }
-    ensures table { table.new ≡ (station_after (station table.old (J.owners journal.now) (J.limit journal.now) (J.lists journal.now) trays.now) cabinet 0 (start_call (station table.old (J.owners journal.now) (J.limit journal.now) (J.lists journal.now) trays.now) cabinet)).table }
+    ensures { Ended (parts J.owners J.limit J.lists table.old journal.now trays.now)
+        (parts J.owners J.limit J.lists table.new journal.now trays.now) cabinet 0 result
+        (λ s. start_call s cabinet) }
 {
     check_named(table, journal, trays, cabinet)?;
     table[cabinet as usize].start()?;

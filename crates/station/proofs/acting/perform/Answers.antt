@@ -7,11 +7,12 @@ use Rattle.cabinet.specs.declared.Cabinet.{Cabinet}
 use Rattle.cabinet.specs.Steps.{Outcome, listed}
 use Rattle.receiving.specs.Readiness.{tray_length}
 use Rattle.receiving.proofs.Naming.{listed_names}
-use Rattle.calls.specs.Stations.{Station, station, cabinets, cabinet_at}
+use Rattle.station.specs.Calling.{parts}
+use Rattle.calls.specs.Stations.{Station, cabinets, cabinet_at}
 use Rattle.calls.specs.Calls.{kind_of}
 use Rattle.station.specs.Acting.{act_step}
 use Rattle.station.proofs.Refusing.{called_tells, does_step}
-use Rattle.station.proofs.Finishing.{finished, step_refused}
+use Rattle.station.proofs.Finishing.{finished, station_left, step_refused}
 use Rattle.station.proofs.Wording.{act_names}
 use Rattle.station.proofs.acting.perform.Goals as goal
 
@@ -21,7 +22,7 @@ returns-in_err-reply g c =
     let journal = c.args.journal.now in
     let codes : ℕ → Bool = codes_of g.K.OrderKind.decode in
     let quorum : ℕ → ℕ → Bool = g.R.QuorumRule.quorum c.args.rule.now in
-    let s : Station = station table (g.J.Journal.owners journal) (g.J.Journal.limit journal) (g.J.Journal.lists journal) c.args.trays.now in
+    let s : Station = parts g.J.Journal.owners g.J.Journal.limit g.J.Journal.lists table journal c.args.trays.now in
     let i : ℕ = c.args.number in
     let k : ℕ = c.args.tray in
     let step : Outcome = act_step (kind_of g.K.OrderKind.proper g.K.OrderKind.encode g.K.OrderKind.decode) quorum s.limit (cabinets s) i (s.lists i) (cabinet_at s i) c.args.step.now in
@@ -33,11 +34,7 @@ returns-in_err-reply g c =
     let error = err_from_is_err_and c.from_residual-in_err-reply.result c.from_residual-in_err-reply.ensures.1 in
     record {
       answer = error.1 ∙ ap (λ (r : Refusal). Err r) error.2 ∙ done.answer;
-      table = done.table;
-      lists = λ p. c.act.ensures.lists p ∙ done.lists p;
-      owners = c.act.ensures.owners;
-      limit = c.act.ensures.limit;
-      trays = done.trays;
+      station = station_left s i k _ _ _ _ _ _ done.table c.act.ensures.owners c.act.ensures.limit (λ p. c.act.ensures.lists p ∙ done.lists p) (done.trays);
     }
 
 pub say-requires : goal.say-requires
@@ -45,7 +42,7 @@ say-requires g c =
     let table : List Cabinet = c.args.table.now in
     let journal = c.args.journal.now in
     let codes : ℕ → Bool = codes_of g.K.OrderKind.decode in
-    let s : Station = station table (g.J.Journal.owners journal) (g.J.Journal.limit journal) (g.J.Journal.lists journal) c.args.trays.now in
+    let s : Station = parts g.J.Journal.owners g.J.Journal.limit g.J.Journal.lists table journal c.args.trays.now in
     let i : ℕ = c.args.number in
     let k : ℕ = c.args.tray in
     let tells = called_tells codes s i k (sym c.in_ok-check_call.was ∙ c.check_call.ensures) in
@@ -57,7 +54,7 @@ returns g c =
     let journal = c.args.journal.now in
     let codes : ℕ → Bool = codes_of g.K.OrderKind.decode in
     let quorum : ℕ → ℕ → Bool = g.R.QuorumRule.quorum c.args.rule.now in
-    let s : Station = station table (g.J.Journal.owners journal) (g.J.Journal.limit journal) (g.J.Journal.lists journal) c.args.trays.now in
+    let s : Station = parts g.J.Journal.owners g.J.Journal.limit g.J.Journal.lists table journal c.args.trays.now in
     let i : ℕ = c.args.number in
     let k : ℕ = c.args.tray in
     let step : Outcome = act_step (kind_of g.K.OrderKind.proper g.K.OrderKind.encode g.K.OrderKind.decode) quorum s.limit (cabinets s) i (s.lists i) (cabinet_at s i) c.args.step.now in
@@ -73,9 +70,5 @@ returns g c =
     (g.J.Journal.limit c.act.new.journal) o _ c.act.ensures.limit whole (sym c.in_ok-reply.was ∙ c.act.ensures.answer) c.act.ensures.«record» (c.act.ensures.lists i) names in
     record {
       answer = c.say.ensures.answer ∙ done.answer;
-      table = done.table;
-      lists = λ p. c.act.ensures.lists p ∙ done.lists p;
-      owners = c.act.ensures.owners;
-      limit = c.act.ensures.limit;
-      trays = c.say.ensures.trays ∙ done.trays;
+      station = station_left s i k _ _ _ _ _ _ done.table c.act.ensures.owners c.act.ensures.limit (λ p. c.act.ensures.lists p ∙ done.lists p) (c.say.ensures.trays ∙ done.trays);
     }

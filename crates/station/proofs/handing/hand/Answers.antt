@@ -8,15 +8,16 @@ use Rattle.cabinet.specs.Steps.{Outcome, left_by, listed, lists_by, said_by}
 use Rattle.reactions.specs.Reactions.{hear_step}
 use Rattle.receiving.specs.Readiness.{tray_length}
 use Rattle.receiving.proofs.Naming.{hear_names, listed_names}
-use Rattle.calls.specs.Stations.{Station, station, cabinets, cabinet_at, tray_at}
-use Rattle.station.proofs.Finishing.{finished, step_refused}
+use Rattle.station.specs.Calling.{parts}
+use Rattle.calls.specs.Stations.{Station, cabinets, cabinet_at, tray_at}
+use Rattle.station.proofs.Finishing.{finished, station_left, step_refused}
 use Rattle.station.proofs.Hands.{heard, handed_tells, hands}
 use Rattle.station.proofs.handing.hand.Goals as goal
 
 pub slice_bounds-bytes-end : goal.slice_bounds-bytes-end
 slice_bounds-bytes-end g c =
     let journal = c.args.journal.now in
-    let s : Station = station c.args.table.now (g.J.Journal.owners journal) (g.J.Journal.limit journal) (g.J.Journal.lists journal) c.args.trays.now in
+    let s : Station = parts g.J.Journal.owners g.J.Journal.limit g.J.Journal.lists c.args.table.now journal c.args.trays.now in
     let tells = handed_tells (codes_of g.K.OrderKind.decode) (g.R.QuorumRule.quorum c.args.rule.now) s c.args.from c.args.cabinet c.args.to (sym c.in_ok-check_hand.was ∙ c.check_hand.ensures) in
     let size : c.tray_length-size.result ≡ tray_length s.limit = c.tray_length-size.ensures ∙ ap tray_length c.limit.ensures in
     subst (λ n. c.args.from * n + n ≤ length c.args.trays.now) (sym size) tells.from_there
@@ -27,7 +28,7 @@ returns-in_err-reply g c =
     let journal = c.args.journal.now in
     let codes : ℕ → Bool = codes_of g.K.OrderKind.decode in
     let quorum : ℕ → ℕ → Bool = g.R.QuorumRule.quorum c.args.rule.now in
-    let s : Station = station table (g.J.Journal.owners journal) (g.J.Journal.limit journal) (g.J.Journal.lists journal) c.args.trays.now in
+    let s : Station = parts g.J.Journal.owners g.J.Journal.limit g.J.Journal.lists table journal c.args.trays.now in
     let from : ℕ = c.args.from in
     let i : ℕ = c.args.cabinet in
     let k : ℕ = c.args.to in
@@ -44,17 +45,13 @@ returns-in_err-reply g c =
     let error = err_from_is_err_and c.from_residual-in_err-reply.result c.from_residual-in_err-reply.ensures.1 in
     record {
       answer = error.1 ∙ ap (λ (r : Refusal). Err r) error.2 ∙ done.answer;
-      table = done.table;
-      lists = λ p. lists p ∙ done.lists p;
-      owners = c.hear.ensures.owners;
-      limit = c.hear.ensures.limit;
-      trays = done.trays;
+      station = station_left s i k _ _ _ _ _ _ done.table c.hear.ensures.owners c.hear.ensures.limit (λ p. lists p ∙ done.lists p) (done.trays);
     }
 
 pub say-requires : goal.say-requires
 say-requires g c =
     let journal = c.args.journal.now in
-    let s : Station = station c.args.table.now (g.J.Journal.owners journal) (g.J.Journal.limit journal) (g.J.Journal.lists journal) c.args.trays.now in
+    let s : Station = parts g.J.Journal.owners g.J.Journal.limit g.J.Journal.lists c.args.table.now journal c.args.trays.now in
     let tells = handed_tells (codes_of g.K.OrderKind.decode) (g.R.QuorumRule.quorum c.args.rule.now) s c.args.from c.args.cabinet c.args.to (sym c.in_ok-check_hand.was ∙ c.check_hand.ensures) in
     subst (λ n. c.args.to * tray_length n + tray_length n ≤ length s.trays) (sym c.hear.ensures.limit) tells.to_there
 
@@ -64,7 +61,7 @@ returns g c =
     let journal = c.args.journal.now in
     let codes : ℕ → Bool = codes_of g.K.OrderKind.decode in
     let quorum : ℕ → ℕ → Bool = g.R.QuorumRule.quorum c.args.rule.now in
-    let s : Station = station table (g.J.Journal.owners journal) (g.J.Journal.limit journal) (g.J.Journal.lists journal) c.args.trays.now in
+    let s : Station = parts g.J.Journal.owners g.J.Journal.limit g.J.Journal.lists table journal c.args.trays.now in
     let from : ℕ = c.args.from in
     let i : ℕ = c.args.cabinet in
     let k : ℕ = c.args.to in
@@ -86,9 +83,5 @@ returns g c =
     (g.J.Journal.limit c.hear.new.journal) o _ c.hear.ensures.limit whole (sym c.in_ok-reply.was ∙ answer) left (lists i) names in
     record {
       answer = c.say.ensures.answer ∙ done.answer;
-      table = done.table;
-      lists = λ p. lists p ∙ done.lists p;
-      owners = c.hear.ensures.owners;
-      limit = c.hear.ensures.limit;
-      trays = c.say.ensures.trays ∙ done.trays;
+      station = station_left s i k _ _ _ _ _ _ done.table c.hear.ensures.owners c.hear.ensures.limit (λ p. lists p ∙ done.lists p) (c.say.ensures.trays ∙ done.trays);
     }
