@@ -1,7 +1,6 @@
 // The layout that the codes of both kinds share: a word of 32 bits, a byte above it, and the rest.
 ghost use Rattle.std.specs.Prelude.{◌≡◌};
 ghost use Rattle.orders.specs.Codes.{joined, low_of, middle_of, high_of};
-ghost use Rattle.orders.specs.Kinds.{between};
 
 pub(crate) fn join(low: u32, middle: u8, high: u16) -> u64
     ensures { result ≡ joined low middle high }
@@ -25,10 +24,4 @@ pub(crate) fn high(code: u64) -> u64
     ensures { result ≡ high_of code }
 {
     code >> 40
-}
-
-pub(crate) fn in_range(n: u16, least: u16, greatest: u16) -> bool
-    ensures { result ≡ between least greatest n }
-{
-    least <= n && n <= greatest
 }

@@ -10,6 +10,8 @@ ghost use Rattle.std.specs.Prelude.{◌≡◌, ℕ, Bool, Option};
 ghost use Rattle.orders.specs.Kinds.{or_refused, code_answer, ReadsBack, ReadsCodesOnly, CodesDiffer, CodesFit};
 
 use refusal::Refusal;
+use std::fmt;
+pub use trips::{recode, reread};
 
 // A kind of order: which orders are proper, and the 64-bit code that each proper order travels as.
 pub trait OrderKind: Copy {
@@ -55,4 +57,27 @@ pub struct Sample {
     pub reading: u16,
 }
 
-pub use trips::{recode, reread};
+impl fmt::Display for SetPoint {
+    fn fmt<W: fmt::Write>(&self, f: &mut fmt::Formatter<W>) -> fmt::Result {
+        let SetPoint {
+            effect,
+            quantity,
+            value,
+        } = self;
+        write!(f, "effect {effect}, quantity {quantity}, value {value}")
+    }
+}
+
+impl fmt::Display for Sample {
+    fn fmt<W: fmt::Write>(&self, f: &mut fmt::Formatter<W>) -> fmt::Result {
+        let Sample {
+            number,
+            juice,
+            reading,
+        } = self;
+        write!(
+            f,
+            "sample {number}, juice {juice}, Brix {reading} hundredths"
+        )
+    }
+}

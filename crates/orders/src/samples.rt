@@ -20,28 +20,20 @@ impl OrderKind for Sample {
     ghost codes_fit = { sample_codes_fit };
 
     fn is_proper(self) -> bool {
-        codes::in_range(self.juice as u16, 1, 6) & codes::in_range(self.reading, 0, 10_000)
+        (1..=6).contains(&self.juice) && self.reading <= 10_000
     }
 
     fn code(self) -> Result<u64, Refusal> {
-        if !self.is_proper() {
-            return Err(Refusal::NotProper);
-        }
-        Ok(codes::join(self.number, self.juice, self.reading))
+        let code = codes::join(self.number, self.juice, self.reading);
+        self.is_proper().then_some(code).ok_or(Refusal::NotProper)
     }
 
     fn from_code(code: u64) -> Result<Sample, Refusal> {
-        let Ok(reading) = u16::try_from(codes::high(code)) else {
-            return Err(Refusal::NotProper);
-        };
         let order = Sample {
             number: codes::low(code),
             juice: codes::middle(code),
-            reading,
+            reading: u16::try_from(codes::high(code)).map_err(|_| Refusal::NotProper)?,
         };
-        if !order.is_proper() {
-            return Err(Refusal::NotProper);
-        }
-        Ok(order)
+        order.is_proper().then_some(order).ok_or(Refusal::NotProper)
     }
 }

@@ -20,32 +20,24 @@ impl OrderKind for SetPoint {
     ghost codes_fit = { set_point_codes_fit };
 
     fn is_proper(self) -> bool {
-        codes::in_range(self.effect as u16, 1, 5) & codes::in_range(self.quantity as u16, 1, 4)
+        (1..=5).contains(&self.effect) && (1..=4).contains(&self.quantity)
     }
 
     fn code(self) -> Result<u64, Refusal> {
-        if !self.is_proper() {
-            return Err(Refusal::NotProper);
-        }
-        Ok(codes::join(
+        let code = codes::join(
             self.value.cast_unsigned(),
             self.quantity,
             self.effect as u16,
-        ))
+        );
+        self.is_proper().then_some(code).ok_or(Refusal::NotProper)
     }
 
     fn from_code(code: u64) -> Result<SetPoint, Refusal> {
-        let Ok(effect) = u8::try_from(codes::high(code)) else {
-            return Err(Refusal::NotProper);
-        };
         let order = SetPoint {
-            effect,
+            effect: u8::try_from(codes::high(code)).map_err(|_| Refusal::NotProper)?,
             quantity: codes::middle(code),
             value: codes::low(code).cast_signed(),
         };
-        if !order.is_proper() {
-            return Err(Refusal::NotProper);
-        }
-        Ok(order)
+        order.is_proper().then_some(order).ok_or(Refusal::NotProper)
     }
 }

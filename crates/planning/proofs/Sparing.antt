@@ -1,11 +1,13 @@
 -- What a set is without one of its cabinets, and what that tells of the sets that carry a change. Assumes nothing.
-use Rattle.std.proofs.Common.{◌≡◌, ℕ, zero, suc, ◌-◌, ◌*◌, ◌%◌, ◌^◌, ◌<◌, Bool, true, false, cond, not, ◌&&◌, eqb, sym, refl, ap, ◌∙◌, inl, inr, arith}
+use Rattle.std.proofs.Common.{◌≡◌, ℕ, zero, suc, ◌^◌, ◌<◌, Bool, true, false, cond, not, ◌&&◌, eqb, Some, None, Option, sym, refl, subst, ap, ◌∙◌, inl, inr, arith}
+use Rattle.std.specs.Prelude.{is_some}
 use lib.Bits.{bit_and}
-use Rattle.std.proofs.lemmas.Bool.{cases_Bool, cases_eq, both_ways, and_parts, and_from, ne_eqb, eq-eqb, not_from_true, not_from_false}
+use Rattle.std.proofs.lemmas.Bool.{false≢true, cases_Bool, cases_eq, both_ways, and_parts, and_from, ne_eqb, eq-eqb, not_from_true, not_from_false}
 use Rattle.quorum.specs.Rules.{Grows}
 use Rattle.quorum.specs.Sets.{has}
 use Rattle.quorum.specs.Masks.{in_and, to_and, has_below}
-use Rattle.planning.specs.Changes.{Within, carried, Least}
+use Rattle.planning.specs.Changes.{Within, carried, others, spared, lowest, Least}
+use Rattle.planning.proofs.Lowest.{IsLowest, lowest_tells}
 use Rattle.planning.specs.declared.Change.{Change}
 
 -- a test holds at every number below n
@@ -32,19 +34,11 @@ same_true true b h = sym h
 same_true false true h = h
 same_true false false h = refl
 
--- every cabinet but i, among sixteen, as the code writes it: !(1 << i)
-abbrev pub others : ℕ → ℕ
-others i = 65535 - (1 * 2 ^ i) % 65536
-
 -- shown by trying all pairs
 others_at : (i k : ℕ) → i < 16 → k < 16 → has (others i) k ≡ not (eqb k i)
 others_at i k hi hk =
     let row = all_below_at 16 (λ i. all_below 16 (λ k. same (has (others i) k) (not (eqb k i)))) refl i hi in
     same_true (has (others i) k) (not (eqb k i)) (all_below_at 16 (λ k. same (has (others i) k) (not (eqb k i))) row k hk)
-
--- cabinet i of the set can be spared
-abbrev pub spared : (ℕ → ℕ → Bool) → Change → ℕ → ℕ → Bool
-spared quorum change set i = has set i && carried quorum change (bit_and set (others i))
 
 module _ (quorum : ℕ → ℕ → Bool) (grows : Grows quorum) (change : Change) where
   -- a set with cabinets added still carries
@@ -74,3 +68,12 @@ module _ (quorum : ℕ → ℕ → Bool) (grows : Grows quorum) (change : Change
       let parts = and_parts (has set i) (carried quorum change (bit_and set (others i))) spare in
       let back = least.needs_all (bit_and set (others i)) (λ k h. (in_and set (others i) k h).0) parts.1 i parts.0 in
       both_ways (has (others i) i) (others_at i i below below ∙ not_from_true (eqb i i) (eq-eqb i i refl)) (in_and set (others i) i back).1
+
+  -- so a set that carries is a least one just where no cabinet is the lowest that can be spared
+  pub least_by : (set : ℕ) → set < 2 ^ 16 → carried quorum change set ≡ true → (o : Option ℕ) → o ≡ lowest (spared quorum change set)
+      → (is_some o ≡ false → Least quorum change set) × (Least quorum change set → is_some o ≡ false)
+  least_by set small carries o is = by_case o (subst (IsLowest (spared quorum change set)) (sym is) (lowest_tells (spared quorum change set)))
+    where
+      by_case : (o : Option ℕ) → IsLowest (spared quorum change set) o → (is_some o ≡ false → Least quorum change set) × (Least quorum change set → is_some o ≡ false)
+      by_case None none = (λ _. least_from set small carries none, λ _. refl)
+      by_case (Some i) found = (λ e. absurd (false≢true (sym e)), λ least. absurd (not_least set i found.0 found.1 least))

@@ -2,7 +2,8 @@
 #![tactic(auto)]
 
 ghost use Rattle.std.specs.Prelude.{◌≡◌, ℕ, true, is_some, Decides, MatchOption};
-ghost use Rattle.planning.specs.Changes.{carried, Least, Shared, FirstShared};
+ghost use Rattle.quorum.specs.Sets.{has};
+ghost use Rattle.planning.specs.Changes.{carried, spared, lowest, Least, Shared, FirstShared};
 
 use quorum::{QuorumRule, contains};
 
@@ -18,24 +19,29 @@ impl Change {
     pub fn is_carried<R: QuorumRule>(self, rule: &R, set: u16) -> bool
         ensures { result ≡ carried (R.quorum rule.now) self set }
     {
-        rule.is_quorum(self.old, set) & rule.is_quorum(self.new, set)
+        rule.is_quorum(self.old, set) && rule.is_quorum(self.new, set)
     }
 
     // Whether the set carries the change and can spare no cabinet.
     pub fn is_least<R: QuorumRule>(self, rule: &R, set: u16) -> bool
         ensures { Decides result (Least (R.quorum rule.now) self set) }
     {
-        if !self.is_carried(rule, set) {
-            return false;
-        }
-        for i in 0..16u8 {
-            let rest = set & !(1 << i);
-            if contains(set, i) & self.is_carried(rule, rest) {
-                return false;
-            }
-        }
-        true
+        self.is_carried(rule, set) && self.spare(rule, set).is_none()
     }
+
+    // The lowest cabinet of the set without which it still carries the change.
+    fn spare<R: QuorumRule>(self, rule: &R, set: u16) -> Option<u8>
+        ensures { result ≡ lowest (spared (R.quorum rule.now) self set) }
+    {
+        (0..16u8).find(|i| contains(set, *i) && self.is_carried(rule, set & !(1 << *i)))
+    }
+}
+
+// The lowest cabinet of a set.
+fn lowest_of(set: u16) -> Option<u8>
+    ensures { result ≡ lowest (has set) }
+{
+    (0..16u8).find(|i| contains(set, *i))
 }
 
 // The lowest member that is in both sets. Two quorums always have one.
@@ -43,10 +49,5 @@ pub fn shared<R: QuorumRule>(rule: &R, members: u16, a: u16, b: u16) -> Option<u
     ensures found { MatchOption result ((i : ℕ) → Shared members a b i → ⊥) (λ i. FirstShared members a b i) }
     ensures quorums { R.quorum rule.now members a ≡ true → R.quorum rule.now members b ≡ true → is_some result ≡ true }
 {
-    for i in 0..16u8 {
-        if contains(members & a & b, i) {
-            return Some(i);
-        }
-    }
-    None
+    lowest_of(members & a & b)
 }

@@ -1,8 +1,8 @@
 -- Weights within groups, and the groups that a set wins. Assumes nothing.
-use Rattle.std.specs.Prelude.{◌≡◌, ℕ, ◌*◌, ◌≤◌, Bool, true, ◌&&◌, bit_and, nat_lt, slice_index}
+use Rattle.std.specs.Prelude.{◌≡◌, ℕ, ◌*◌, ◌≤◌, Bool, true, ◌&&◌, bit_and, nat_lt}
 use Rattle.std.proofs.Common.{ap, arith}
 use Rattle.std.proofs.lemmas.Bool.{and_parts, and_from, lt-ltb, ltb-true}
-use Rattle.quorum.specs.GroupRule.{belongs, weight_in, counts, won}
+use Rattle.quorum.specs.GroupRule.{share_of, belongs, weight_in, counts, won}
 use Rattle.quorum.specs.Sets.{has}
 use Rattle.quorum.specs.declared.Groups.{Groups}
 use Rattle.quorum.specs.Masks.{in_and, and_again, and_grows}
@@ -10,7 +10,7 @@ use Rattle.quorum.specs.Weighing.{weigh_same, weigh_mono, weigh_share}
 
 module _ (rule : Groups) where
   abbrev weights : ℕ → ℕ
-  weights i = slice_index rule.weights i
+  weights i = (share_of rule i).weight
 
   -- cabinet i is in the set and in group g
   abbrev there : ℕ → ℕ → ℕ → Bool

@@ -6,3 +6,4 @@ pub mod Grouping
 pub mod Masks
 pub mod Weighing
 pub mod Lawful
+pub mod Passing

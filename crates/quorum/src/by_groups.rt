@@ -1,63 +1,74 @@
-ghost use Rattle.std.specs.Prelude.{◌≡◌, ◌≤◌, if◌then◌else◌};
-ghost use Rattle.quorum.specs.Sets.{count};
+ghost use Rattle.std.specs.Prelude.{◌≡◌, ◌≤◌, ◌==◌, if◌then◌else◌};
+ghost use Rattle.quorum.specs.Passing.{passing};
 ghost use Rattle.quorum.specs.GroupRule.{group_number, weight_in, counts, won, by_groups};
 ghost use Rattle.quorum.specs.Lawful.{groups_members_count, groups_grow, groups_share_member};
 
-use crate::{Group, Groups, QuorumRule};
+use crate::{Group, Groups, QuorumRule, Share, contains};
 
-impl Group {
-    fn number(self) -> u8
-        ensures { result ≡ group_number self }
+const GROUPS: [Group; 4] = [Group::Zero, Group::One, Group::Two, Group::Three];
+
+impl Share {
+    // Its weight, where it is in the group.
+    fn weight_in(self, group: Group) -> u16
+        ensures weight { result ≡ (if group_number self.group == group_number group then self.weight else 0) }
+        ensures small { result ≤ 255 }
     {
-        match self {
-            Group::Zero => 0,
-            Group::One => 1,
-            Group::Two => 2,
-            Group::Three => 3,
+        if self.group == group {
+            self.weight as u16
+        } else {
+            0
         }
     }
-}
-
-fn weight_if(picked: bool, weight: u8) -> u16
-    ensures { (result ≡ (if picked then weight else 0)) × (result ≤ weight) }
-{
-    if picked { weight as u16 } else { 0 }
 }
 
 impl Groups {
     // The weight of a set's cabinets in one group.
-    fn weight_in(&self, group: u8, set: u16) -> u16
-        ensures { result ≡ weight_in self.now group set }
+    fn weight_in(&self, group: Group, set: u16) -> u16
+        ensures { result ≡ weight_in self.now (group_number group) set }
     {
         let mut weight: u16 = 0;
-        for i in 0..16usize {
-            let picked = ((set >> i) % 2 == 1) & (self.groups[i].number() == group);
-            weight += weight_if(picked, self.weights[i]);
+        for (i, share) in self.shares.iter().enumerate() {
+            if contains(set, i as u8) {
+                weight += share.weight_in(group);
+            }
         }
         weight
     }
 
-    // Whether the members have weight in a group, and whether the set has more than half of it.
-    fn standing(&self, members: u16, set: u16, group: u8) -> (bool, bool)
-        ensures { (result.0 ≡ counts self.now members group) × (result.1 ≡ won self.now members set group) }
+    // Whether the members have weight in a group.
+    fn counts(&self, members: u16, group: Group) -> bool
+        ensures { result ≡ counts self.now members (group_number group) }
+    {
+        0 < self.weight_in(group, members)
+    }
+
+    // Whether the set has more than half of the members' weight in a group.
+    fn wins(&self, members: u16, set: u16, group: Group) -> bool
+        ensures { result ≡ won self.now members set (group_number group) }
     {
         let whole = self.weight_in(group, members) as u32;
         let part = self.weight_in(group, set & members) as u32;
-        (0 < whole, whole < 2 * part)
+        whole < 2 * part
     }
 
-    // In how many groups the members have weight, and how many of them the set wins.
-    fn groups_won(&self, members: u16, set: u16) -> (u16, u16)
-        ensures { (result.0 ≡ count 4 (counts self.now members)) × (result.1 ≡ count 4 (won self.now members set)) }
+    // In how many groups the members have weight.
+    fn counting(&self, members: u16) -> usize
+        ensures { result ≡ passing (counts self.now members) }
     {
-        let mut counting: u16 = 0;
-        let mut won: u16 = 0;
-        for group in 0..4u8 {
-            let (counts, wins) = self.standing(members, set, group);
-            counting += weight_if(counts, 1);
-            won += weight_if(wins, 1);
-        }
-        (counting, won)
+        GROUPS
+            .iter()
+            .filter(|group| self.counts(members, **group))
+            .count()
+    }
+
+    // How many groups the set wins.
+    fn won(&self, members: u16, set: u16) -> usize
+        ensures { result ≡ passing (won self.now members set) }
+    {
+        GROUPS
+            .iter()
+            .filter(|group| self.wins(members, set, **group))
+            .count()
     }
 }
 
@@ -71,7 +82,6 @@ impl QuorumRule for Groups {
     ghost share_member = { groups_share_member };
 
     fn is_quorum(&self, members: u16, set: u16) -> bool {
-        let (counting, won) = self.groups_won(members, set);
-        (counting as u32) < 2 * won as u32
+        self.counting(members) < 2 * self.won(members, set)
     }
 }

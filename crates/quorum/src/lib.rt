@@ -35,7 +35,7 @@ pub trait QuorumRule {
 pub struct Majority;
 
 // One of the four groups that cabinets are put into.
-#[derive(Clone, Copy)]
+#[derive(Clone, Copy, PartialEq, Eq)]
 pub enum Group {
     Zero,
     One,
@@ -43,10 +43,16 @@ pub enum Group {
     Three,
 }
 
-// Each cabinet has a weight and a group; a quorum wins more than half of the groups in which the members have
-// weight, each by more than half of the members' weight there.
+// What a cabinet counts for: its weight, in its group.
+#[derive(Clone, Copy)]
+pub struct Share {
+    pub weight: u8,
+    pub group: Group,
+}
+
+// Each cabinet has a share; a quorum wins more than half of the groups in which the members have weight, each by
+// more than half of the members' weight there.
 #[derive(Clone, Copy)]
 pub struct Groups {
-    pub weights: [u8; 16],
-    pub groups: [Group; 16],
+    pub shares: [Share; 16],
 }

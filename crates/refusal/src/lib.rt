@@ -4,51 +4,54 @@
 ghost use Rattle.std.specs.Prelude.{◌≡◌};
 ghost use Rattle.refusal.specs.Numbers.{number_of};
 
-#[derive(Clone, Copy, Debug)]
+use std::error::Error;
+use std::fmt;
+
+#[derive(Clone, Copy, Debug, PartialEq, Eq)]
 pub enum Refusal {
     // The station.
-    OutOfBounds,
-    NoCabinet,
-    NoTray,
-    BadFounders,
+    OutOfBounds = 1,
+    NoCabinet = 2,
+    NoTray = 3,
+    BadFounders = 4,
     // The tray.
-    EmptyTray,
+    EmptyTray = 5,
     // The cabinet.
-    Stopped,
-    Running,
-    Unsound,
+    Stopped = 6,
+    Running = 7,
+    Unsound = 8,
     // The frame.
-    FrameShort,
-    FrameKind,
-    FrameShape,
-    FrameField,
+    FrameShort = 10,
+    FrameKind = 11,
+    FrameShape = 12,
+    FrameField = 13,
     // The address.
-    WrongAddress,
+    WrongAddress = 20,
     // The epoch.
-    OldEpoch,
-    OtherEpoch,
+    OldEpoch = 21,
+    OtherEpoch = 22,
     // The role.
-    NotLeading,
+    NotLeading = 30,
     // The order.
-    NotProper,
+    NotProper = 31,
     // The change of members.
-    WrongVersion,
-    ChangePending,
-    BadMembers,
-    MembersBehind,
+    WrongVersion = 32,
+    ChangePending = 33,
+    BadMembers = 34,
+    MembersBehind = 35,
     // The stand for election.
-    NotInPlay,
-    EpochsSpent,
+    NotInPlay = 36,
+    EpochsSpent = 37,
     // The journal.
-    Gap,
-    Full,
-    CommittedAltered,
-    TooMuchAcknowledged,
+    Gap = 40,
+    Full = 41,
+    CommittedAltered = 42,
+    TooMuchAcknowledged = 43,
     // The vote.
-    VoterAhead,
+    VoterAhead = 44,
     // The question.
-    NoPosition,
-    ListShort,
+    NoPosition = 50,
+    ListShort = 51,
 }
 
 impl Refusal {
@@ -56,43 +59,14 @@ impl Refusal {
     pub fn number(self) -> u8
         ensures { result ≡ number_of self }
     {
-        match self {
-            Refusal::OutOfBounds => 1,
-            Refusal::NoCabinet => 2,
-            Refusal::NoTray => 3,
-            Refusal::BadFounders => 4,
-            Refusal::EmptyTray => 5,
-            Refusal::Stopped => 6,
-            Refusal::Running => 7,
-            Refusal::Unsound => 8,
-            Refusal::FrameShort => 10,
-            Refusal::FrameKind => 11,
-            Refusal::FrameShape => 12,
-            Refusal::FrameField => 13,
-            Refusal::WrongAddress => 20,
-            Refusal::OldEpoch => 21,
-            Refusal::OtherEpoch => 22,
-            Refusal::NotLeading => 30,
-            Refusal::NotProper => 31,
-            Refusal::WrongVersion => 32,
-            Refusal::ChangePending => 33,
-            Refusal::BadMembers => 34,
-            Refusal::MembersBehind => 35,
-            Refusal::NotInPlay => 36,
-            Refusal::EpochsSpent => 37,
-            Refusal::Gap => 40,
-            Refusal::Full => 41,
-            Refusal::CommittedAltered => 42,
-            Refusal::TooMuchAcknowledged => 43,
-            Refusal::VoterAhead => 44,
-            Refusal::NoPosition => 50,
-            Refusal::ListShort => 51,
-        }
+        self as u8
     }
+}
 
-    // What was refused, in a few words for people.
-    pub fn text(self) -> &'static str {
-        match self {
+// What was refused, in a few words for people.
+impl fmt::Display for Refusal {
+    fn fmt<W: fmt::Write>(&self, f: &mut fmt::Formatter<W>) -> fmt::Result {
+        f.write_str(match self {
             Refusal::OutOfBounds => "a part is outside its bounds",
             Refusal::NoCabinet => "no such cabinet",
             Refusal::NoTray => "no such tray, or too little memory",
@@ -123,6 +97,8 @@ impl Refusal {
             Refusal::VoterAhead => "the voter's list is later than the candidate's",
             Refusal::NoPosition => "no such position",
             Refusal::ListShort => "the list is too short",
-        }
+        })
     }
 }
+
+impl Error for Refusal {}
