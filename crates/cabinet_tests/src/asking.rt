@@ -8,17 +8,11 @@ use refusal::Refusal;
 use std::process::Abort;
 
 fn body(answer: Result<Entry, Refusal>) -> Result<u64, u8> {
-    match answer {
-        Ok(entry) => Ok(entry.body),
-        Err(refusal) => Err(refusal.number()),
-    }
+    answer.map(|entry| entry.body).map_err(|refusal| refusal.number())
 }
 
 fn count(answer: Result<u8, Refusal>) -> Result<u8, u8> {
-    match answer {
-        Ok(members) => Ok(members),
-        Err(refusal) => Err(refusal.number()),
-    }
+    answer.map_err(|refusal| refusal.number())
 }
 
 // The entries below the mark and the members by the last configuration there, the ones of the fourth entry not among them.

@@ -5,6 +5,7 @@ use Rattle.refusal.specs.Numbers.{number_of}
 use Rattle.orders.specs.declared.SetPoint.{SetPoint}
 use Rattle.orders.specs.SetPoints.{encode}
 use Rattle.quorum.specs.declared.Group.TheVariants.{Zero}
+use Rattle.quorum.specs.declared.Share.{Share}
 use Rattle.quorum.specs.declared.Groups.{Groups}
 use Rattle.quorum.specs.GroupRule.{by_groups}
 use Rattle.quorum.specs.MajorityRule.{majority}
@@ -22,9 +23,13 @@ use Rattle.messages.specs.Messages.{candidate_step}
 abbrev pub Refused : {A : Type 0} → Result A Refusal → ℕ → Type 0
 Refused r n = (e : Refusal) × (r ≡ Err e) × (number_of e ≡ n)
 
+-- a share of this weight, in group 0
+abbrev pub of_weight : ℕ → Share
+of_weight weight = record { weight = weight; group = Zero }
+
 -- all cabinets in one group, the first three with the weights 3, 1 and 1, the others with none
 abbrev pub one_group : Groups
-one_group = record { weights = 3 ∷ 1 ∷ 1 ∷ replicate 13 0; groups = replicate 16 Zero }
+one_group = record { shares = of_weight 3 ∷ of_weight 1 ∷ of_weight 1 ∷ replicate 13 (of_weight 0) }
 
 -- a configuration of these members
 abbrev pub members : ℕ → Entry

@@ -62,9 +62,7 @@ fn role(number: u8) -> &'static str {
 }
 
 fn print_refusal(rt: &HostRuntime, refusal: Refusal) -> io::Result<()> {
-    let number = refusal.number();
-    let text = refusal.text();
-    println!(rt; "refused by {number}: {text}")
+    println!(rt; "refused by {}: {refusal}", refusal.number())
 }
 
 // What a cabinet knows after its step.
@@ -199,8 +197,7 @@ fn questions<J: Journal>(rt: &HostRuntime, plant: &Plant<'_, J>, number: u8) -> 
                 print!(rt; " {body} at epoch {epoch};")?;
             }
             Err(refusal) => {
-                let number = refusal.number();
-                println!(rt; " then {number}")?;
+                println!(rt; " then {}", refusal.number())?;
             }
         }
     }

@@ -25,9 +25,7 @@ fn name(message: Message<'_>) -> &'static str {
 }
 
 fn print_refusal(rt: &HostRuntime, refusal: Refusal) -> io::Result<()> {
-    let number = refusal.number();
-    let text = refusal.text();
-    println!(rt; "refused by {number}: {text}")
+    println!(rt; "refused by {}: {refusal}", refusal.number())
 }
 
 fn print_bytes(rt: &HostRuntime, bytes: &[u8]) -> io::Result<()> {

@@ -58,7 +58,6 @@ enum Answer {
     Done,
     Length(u16),
     Found(Entry),
-    Refused(Refusal),
 }
 
 impl fmt::Display for Answer {
@@ -66,17 +65,26 @@ impl fmt::Display for Answer {
         match self {
             Answer::Done => write!(f, "done"),
             Answer::Length(length) => write!(f, "{length} entries"),
-            Answer::Found(entry) => {
-                let body = entry.body;
-                write!(f, "order {body}")
-            }
-            Answer::Refused(refusal) => {
-                let number = refusal.number();
-                let text = refusal.text();
-                write!(f, "refused, {number}: {text}")
-            }
+            Answer::Found(entry) => write!(f, "order {}", entry.body),
         }
     }
+}
+
+// An answer or a refusal, as a person reads it.
+#[derive(Clone, Copy)]
+struct Told(Result<Answer, Refusal>);
+
+impl fmt::Display for Told {
+    fn fmt<W: fmt::Write>(&self, f: &mut fmt::Formatter<W>) -> fmt::Result {
+        match self.0 {
+            Ok(answer) => write!(f, "{answer}"),
+            Err(refusal) => write!(f, "refused, {}: {refusal}", refusal.number()),
+        }
+    }
+}
+
+fn done(res: Result<(), Refusal>) -> Told {
+    Told(res.map(|()| Answer::Done))
 }
 
 fn order(code: u64) -> Entry {
@@ -87,26 +95,19 @@ fn order(code: u64) -> Entry {
     }
 }
 
-fn done(res: Result<(), Refusal>) -> Answer {
-    match res {
-        Ok(()) => Answer::Done,
-        Err(refusal) => Answer::Refused(refusal),
-    }
-}
-
-fn ask<J: Journal>(journal: &mut J, call: &Call) -> Answer {
-    match call {
-        Call::Append(owner, code) => done(journal.append(*owner, order(*code))),
-        Call::Keep(owner, count) => done(journal.keep(*owner, *count)),
-        Call::Length(owner) => match journal.length(*owner) {
-            Ok(length) => Answer::Length(length),
-            Err(refusal) => Answer::Refused(refusal),
-        },
-        Call::Read(owner, position) => match journal.entry(*owner, *position) {
-            Ok(entry) => Answer::Found(entry),
-            Err(refusal) => Answer::Refused(refusal),
-        },
-    }
+fn ask<J: Journal>(journal: &mut J, call: &Call) -> Result<Answer, Refusal> {
+    Ok(match call {
+        Call::Append(owner, code) => {
+            journal.append(*owner, order(*code))?;
+            Answer::Done
+        }
+        Call::Keep(owner, count) => {
+            journal.keep(*owner, *count)?;
+            Answer::Done
+        }
+        Call::Length(owner) => Answer::Length(journal.length(*owner)?),
+        Call::Read(owner, position) => Answer::Found(journal.entry(*owner, *position)?),
+    })
 }
 
 // Whether the owner's lists in two journals are the same, entry by entry.
@@ -207,8 +208,8 @@ fn tell<A: Journal, B: Journal>(
     };
     for call in &CALLS {
         let length = sheet.length(0).unwrap_or(0);
-        let on_sheet = ask(sheet, call);
-        let on_reel = ask(reel, call);
+        let on_sheet = Told(ask(sheet, call));
+        let on_reel = Told(ask(reel, call));
         println!(rt; "  {call}")?;
         println!(rt; "      sheet: {on_sheet}; reel: {on_reel}")?;
         if changes_first(call, &on_reel) {
@@ -219,12 +220,8 @@ fn tell<A: Journal, B: Journal>(
 }
 
 // Whether the call has changed cabinet 0's list.
-fn changes_first(call: &Call, answer: &Answer) -> bool {
-    match (call, answer) {
-        (Call::Append(0, _), Answer::Done) => true,
-        (Call::Keep(0, _), Answer::Done) => true,
-        _ => false,
-    }
+fn changes_first(call: &Call, told: &Told) -> bool {
+    matches!(call, Call::Append(0, _) | Call::Keep(0, _)) && told.0.is_ok()
 }
 
 fn print_list<J: Journal>(
@@ -319,8 +316,8 @@ fn fill_and_cut<A: Journal, B: Journal>(
         "  fill every list: sheet: {on_sheet}, {sheet_total} entries; reel: {on_reel}, {reel_total} entries"
     )?;
     let call = Call::Append(15, 1);
-    let on_sheet = ask(sheet, &call);
-    let on_reel = ask(reel, &call);
+    let on_sheet = Told(ask(sheet, &call));
+    let on_reel = Told(ask(reel, &call));
     println!(rt; "  {call}: sheet: {on_sheet}; reel: {on_reel}")?;
     let on_sheet = done(cut(sheet, count));
     let on_reel = done(cut(reel, count));

@@ -2,32 +2,52 @@
 #![tactic(auto)]
 
 use planning::{Change, shared};
-use quorum::{Group, Groups, Majority, QuorumRule, contains};
+use quorum::{Group, Groups, Majority, QuorumRule, Share, contains};
 use std::alloc::{AllocError, Global};
 
 // Cabinets 0 to 2 give way to 1, 3 and 4.
 const CHANGE: Change = Change { old: 7, new: 26 };
 
+// A cabinet without weight.
+const NONE: Share = Share {
+    weight: 0,
+    group: Group::Three,
+};
+
 // Cabinets 0 and 1 stand at the first effect, 2 and 3 at the second, 4 at the mud filter; the rest have no weight.
 const PLANT: Groups = Groups {
-    weights: [2, 1, 1, 1, 3, 0, 0, 0, 0, 0, 0, 0, 0, 0, 0, 0],
-    groups: [
-        Group::Zero,
-        Group::Zero,
-        Group::One,
-        Group::One,
-        Group::Two,
-        Group::Three,
-        Group::Three,
-        Group::Three,
-        Group::Three,
-        Group::Three,
-        Group::Three,
-        Group::Three,
-        Group::Three,
-        Group::Three,
-        Group::Three,
-        Group::Three,
+    shares: [
+        Share {
+            weight: 2,
+            group: Group::Zero,
+        },
+        Share {
+            weight: 1,
+            group: Group::Zero,
+        },
+        Share {
+            weight: 1,
+            group: Group::One,
+        },
+        Share {
+            weight: 1,
+            group: Group::One,
+        },
+        Share {
+            weight: 3,
+            group: Group::Two,
+        },
+        NONE,
+        NONE,
+        NONE,
+        NONE,
+        NONE,
+        NONE,
+        NONE,
+        NONE,
+        NONE,
+        NONE,
+        NONE,
     ],
 };
 

@@ -2,7 +2,7 @@
 #![tactic(auto)]
 
 use orders::{OrderKind, Sample, SetPoint, recode, reread};
-use std::alloc::{AllocError, Global};
+use std::fmt;
 
 const SET_POINTS: [SetPoint; 5] = [
     SetPoint {
@@ -57,58 +57,21 @@ const SAMPLES: [Sample; 4] = [
 
 const NUMBERS: [u64; 3] = [2_220_498_092_027, 0, u64::MAX];
 
-// An order that people can read.
-trait Worded: OrderKind {
-    fn words(self, heap: Global) -> Result<String, AllocError>;
-}
-
-impl Worded for SetPoint {
-    fn words(self, heap: Global) -> Result<String, AllocError> {
-        let SetPoint {
-            effect,
-            quantity,
-            value,
-        } = self;
-        format!(in heap; "effect {effect}, quantity {quantity}, value {value}")
-    }
-}
-
-impl Worded for Sample {
-    fn words(self, heap: Global) -> Result<String, AllocError> {
-        let Sample {
-            number,
-            juice,
-            reading,
-        } = self;
-        format!(in heap; "sample {number}, juice {juice}, Brix {reading} hundredths")
-    }
-}
-
-fn show_order<K: Worded>(rt: &HostRuntime, order: K) -> anyhow::Result<()> {
-    let words = order.words(rt.alloc())?;
+fn show_order<K: OrderKind + fmt::Display>(rt: &HostRuntime, order: K) -> anyhow::Result<()> {
     match order.code() {
-        Ok(code) => println!(rt; "  {words}: code {code}")?,
-        Err(refusal) => {
-            let number = refusal.number();
-            let text = refusal.text();
-            println!(rt; "  {words}: refused {number}, {text}")?
-        }
+        Ok(code) => println!(rt; "  {order}: code {code}")?,
+        Err(refusal) => println!(rt; "  {order}: refused {}, {refusal}", refusal.number())?,
     }
     if let Ok(back) = reread(order) {
-        let words = back.words(rt.alloc())?;
-        println!(rt; "    reads back as {words}")?;
+        println!(rt; "    reads back as {back}")?;
     }
     Ok(())
 }
 
-fn show_number<K: Worded>(rt: &HostRuntime, number: u64) -> anyhow::Result<()> {
+fn show_number<K: OrderKind>(rt: &HostRuntime, number: u64) -> anyhow::Result<()> {
     match recode::<K>(number) {
         Ok(again) => println!(rt; "  {number}: an order, coded again {again}")?,
-        Err(refusal) => {
-            let n = refusal.number();
-            let text = refusal.text();
-            println!(rt; "  {number}: refused {n}, {text}")?
-        }
+        Err(refusal) => println!(rt; "  {number}: refused {}, {refusal}", refusal.number())?,
     }
     Ok(())
 }

@@ -4,7 +4,7 @@
 #[cfg(test)]
 mod tests {
     use orders::{OrderKind, Sample, SetPoint};
-    use quorum::{Group, Groups, Majority, QuorumRule};
+    use quorum::{Group, Groups, Majority, QuorumRule, Share};
     use std::process::Abort;
 
     // An order, and its code or the number of its refusal.
@@ -167,10 +167,27 @@ mod tests {
         (0, 0xffff, false),
     ];
 
+    const NONE: Share = Share {
+        weight: 0,
+        group: Group::Zero,
+    };
+
+    const LIGHT: Share = Share {
+        weight: 1,
+        group: Group::Zero,
+    };
+
+    const HEAVY: Share = Share {
+        weight: 3,
+        group: Group::Zero,
+    };
+
     // All in one group, with weights 3, 1 and 1.
     const ONE_GROUP: Groups = Groups {
-        weights: [3, 1, 1, 0, 0, 0, 0, 0, 0, 0, 0, 0, 0, 0, 0, 0],
-        groups: [Group::Zero; 16],
+        shares: [
+            HEAVY, LIGHT, LIGHT, NONE, NONE, NONE, NONE, NONE, NONE, NONE, NONE, NONE, NONE, NONE,
+            NONE, NONE,
+        ],
     };
 
     const BY_ONE_GROUP: [(u16, u16, bool); 6] = [
@@ -184,10 +201,7 @@ mod tests {
     ];
 
     fn answer<T>(r: Result<T, refusal::Refusal>) -> Result<T, u8> {
-        match r {
-            Ok(x) => Ok(x),
-            Err(refusal) => Err(refusal.number()),
-        }
+        r.map_err(|refusal| refusal.number())
     }
 
     fn codes<K: OrderKind>(rt: &impl Abort, rows: &[(K, Result<u64, u8>)]) {
