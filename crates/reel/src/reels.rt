@@ -78,6 +78,7 @@ impl Journal for Reel<'_> {
     }
 
     fn append(&mut self, owner: u16, entry: Entry) -> Result<(), Refusal> {
+        // Here and in the sheet: a helper over `Journal` is refused within the impl, as its call leads back to it.
         if self.length(owner)? >= self.limit() {
             return Err(Refusal::Full);
         }

@@ -60,6 +60,7 @@ impl Journal for Sheet<'_> {
 
     fn append(&mut self, owner: u16, entry: Entry) -> Result<(), Refusal> {
         let row = self.rows.row(owner)?;
+        // Here and in the reel: a helper over `Journal` is refused within the impl, as its call leads back to it.
         if row.used >= self.limit() as usize {
             return Err(Refusal::Full);
         }

@@ -3,7 +3,7 @@ ghost use Rattle.journal.specs.Makes.{made_limit, made_owners, measure_answer};
 ghost use Rattle.shelf.specs.Rows.{Used, Within, row_answer, used_of};
 
 use crate::{Row, Shelf};
-use journal::check_bounds;
+use journal::{LEAST_LIMIT, check_bounds};
 use refusal::Refusal;
 
 impl<'a, T, const SPARE: u8> Shelf<'a, T, SPARE> {
@@ -39,7 +39,7 @@ impl<'a, T, const SPARE: u8> Shelf<'a, T, SPARE> {
                 places,
                 counts,
                 owners: 0,
-                limit: 2,
+                limit: LEAST_LIMIT as u16,
             },
         }
     }
