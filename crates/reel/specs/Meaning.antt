@@ -2,7 +2,7 @@
 use Rattle.std.specs.Prelude.{ℕ, cond, ◌&&◌, List, ◌==◌, nat_lt}
 use Rattle.journal.specs.declared.Entry.{Entry}
 use Rattle.shelf.specs.declared.Shelf.{Shelf}
-use Rattle.shelf.specs.Rows.{used_of}
+use Rattle.shelf.specs.Rows.{shelf_owners, shelf_limit, used_of}
 use Rattle.records.specs.declared.Record.{Record}
 use Rattle.records.specs.Replay.{step, replay}
 use Rattle.reel.specs.declared.Reel.{Reel}
@@ -13,15 +13,15 @@ add_lists owners limit ls o r p = cond (nat_lt o owners && p == o) (step limit (
 
 -- the lists that a shelf of records stands for: what those in use leave when replayed, nothing past the last owner
 abbrev pub replays : Shelf Record 1 → ℕ → List Entry
-replays s o = replay s.limit (used_of s o)
+replays s o = replay (shelf_limit s) (used_of s o)
 
 -- how many owners a reel has
 abbrev pub owners_of : Reel → ℕ
-owners_of s = s.records.owners
+owners_of s = shelf_owners s.records
 
 -- a reel's limit
 abbrev pub limit_of : Reel → ℕ
-limit_of s = s.records.limit
+limit_of s = shelf_limit s.records
 
 -- the lists that a reel stands for
 abbrev pub lists_of : Reel → ℕ → List Entry

@@ -4,6 +4,7 @@ ghost use Rattle.journal.specs.Lists.{owned};
 ghost use Rattle.journal.specs.Makes.{made_limit, made_owners, measure_answer};
 ghost use Rattle.reel.specs.Lawful.{reel_laws};
 ghost use Rattle.reel.specs.Meaning.{add_lists, limit_of, lists_of, owners_of, replays};
+ghost use Rattle.shelf.specs.Rows.{shelf_limit, shelf_owners};
 
 use crate::{Records, Reel};
 use journal::{Entry, Journal};
@@ -35,10 +36,10 @@ pub fn lay<'a>(
 
 // Adds a record to the owner's, rewriting them first where none is free.
 fn add(records: &mut Records<'_>, owner: u16, made: Record) -> Result<(), Refusal>
-    ensures answer { result ≡ owned records.old.owners owner (Ok tt) }
-    ensures lists { (p : ℕ) → replays records.new p ≡ add_lists records.old.owners records.old.limit (replays records.old) owner made p }
-    ensures owners { records.new.owners ≡ records.old.owners }
-    ensures limit { records.new.limit ≡ records.old.limit }
+    ensures answer { result ≡ owned (shelf_owners records.old) owner (Ok tt) }
+    ensures lists { (p : ℕ) → replays records.new p ≡ add_lists (shelf_owners records.old) (shelf_limit records.old) (replays records.old) owner made p }
+    ensures owners { shelf_owners records.new ≡ shelf_owners records.old }
+    ensures limit { shelf_limit records.new ≡ shelf_limit records.old }
 {
     let row = records.row(owner)?;
     let limit = records.limit();

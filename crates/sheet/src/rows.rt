@@ -1,7 +1,7 @@
 ghost use Rattle.std.specs.Prelude.{◌≡◌, ℕ, ◌*◌, [], length};
 ghost use Rattle.journal.specs.Makes.{made_limit, made_owners, measure_answer};
 ghost use Rattle.sheet.specs.Lawful.{sheet_laws};
-ghost use Rattle.sheet.specs.Meaning.{lists_of};
+ghost use Rattle.sheet.specs.Meaning.{limit_of, lists_of, owners_of};
 
 use crate::{Rows, Sheet};
 use journal::{Entry, Journal};
@@ -21,8 +21,8 @@ pub fn lay<'a>(
     owners: usize,
     limit: usize,
 ) -> Sheet<'a>
-    ensures owners { result.rows.owners ≡ made_owners owners (measure_answer owners limit (owners * limit) (length rows.old) (length lengths.old)) }
-    ensures limit { result.rows.limit ≡ made_limit limit (measure_answer owners limit (owners * limit) (length rows.old) (length lengths.old)) }
+    ensures owners { owners_of result ≡ made_owners owners (measure_answer owners limit (owners * limit) (length rows.old) (length lengths.old)) }
+    ensures limit { limit_of result ≡ made_limit limit (measure_answer owners limit (owners * limit) (length rows.old) (length lengths.old)) }
     ensures empty { (p : ℕ) → lists_of result p ≡ [] }
 {
     Sheet {
@@ -31,9 +31,9 @@ pub fn lay<'a>(
 }
 
 impl Journal for Sheet<'_> {
-    ghost owners = { λ s. s.rows.owners };
+    ghost owners = { owners_of };
 
-    ghost limit = { λ s. s.rows.limit };
+    ghost limit = { limit_of };
 
     ghost lists = { lists_of };
 

@@ -7,6 +7,14 @@ use Rattle.journal.specs.Lists.{owned}
 use Rattle.shelf.specs.declared.Row.{Row}
 use Rattle.shelf.specs.declared.Shelf.{Shelf}
 
+-- how many owners a shelf has
+abbrev pub shelf_owners : {T : Type 0} {SPARE : ℕ} → Shelf T SPARE → ℕ
+shelf_owners s = s.owners
+
+-- the limit of the lists that a shelf keeps
+abbrev pub shelf_limit : {T : Type 0} {SPARE : ℕ} → Shelf T SPARE → ℕ
+shelf_limit s = s.limit
+
 -- an owner's places that are in use: the front of its row, as long as its count says and no longer than the row
 abbrev pub in_use : {T : Type 0} → ℕ → List T → List ℕ → ℕ → List T
 in_use width places counts o = take (min (slice_index counts o) width) (drop (o * width) places)

@@ -1,6 +1,6 @@
 ghost use Rattle.std.specs.Prelude.{◌≡◌, ℕ, ◌+◌, ◌*◌, ◌≤◌, [], length};
 ghost use Rattle.journal.specs.Makes.{made_limit, made_owners, measure_answer};
-ghost use Rattle.shelf.specs.Rows.{Used, Within, row_answer, used_of};
+ghost use Rattle.shelf.specs.Rows.{Used, Within, row_answer, shelf_limit, shelf_owners, used_of};
 
 use crate::{Row, Shelf};
 use journal::{LEAST_LIMIT, check_bounds};
@@ -21,8 +21,8 @@ impl<'a, T, const SPARE: u8> Shelf<'a, T, SPARE> {
 
     // The empty shelf over this memory; where `measure` refuses, a shelf without owners and with limit 2.
     pub fn lay(places: &'a mut [T], counts: &'a mut [u16], owners: usize, limit: usize) -> Self
-        ensures owners { result.owners ≡ made_owners owners (measure_answer owners limit (owners * (limit + SPARE)) (length places.old) (length counts.old)) }
-        ensures limit { result.limit ≡ made_limit limit (measure_answer owners limit (owners * (limit + SPARE)) (length places.old) (length counts.old)) }
+        ensures owners { shelf_owners result ≡ made_owners owners (measure_answer owners limit (owners * (limit + SPARE)) (length places.old) (length counts.old)) }
+        ensures limit { shelf_limit result ≡ made_limit limit (measure_answer owners limit (owners * (limit + SPARE)) (length places.old) (length counts.old)) }
         ensures empty { (o : ℕ) → used_of result o ≡ [] }
     {
         match Self::measure(places, counts, owners, limit) {
@@ -45,13 +45,13 @@ impl<'a, T, const SPARE: u8> Shelf<'a, T, SPARE> {
     }
 
     pub fn owners(&self) -> u16
-        ensures { result ≡ self.now.owners }
+        ensures { result ≡ shelf_owners self.now }
     {
         self.owners
     }
 
     pub fn limit(&self) -> u16
-        ensures { result ≡ self.now.limit }
+        ensures { result ≡ shelf_limit self.now }
     {
         self.limit
     }
