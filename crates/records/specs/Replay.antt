@@ -1,5 +1,5 @@
 -- What records stand for, and what each call on them answers and leaves. Assumes nothing.
-use Rattle.std.specs.Prelude.{◌≡◌, ℕ, ◌+◌, ◌<◌, ◌≤◌, min, Bool, cond, List, [], ◌∷◌, ◌++◌, length, take, Ok, Err, fold, Result, nat_lt, slice_index_or}
+use Rattle.std.specs.Prelude.{◌≡◌, ℕ, ◌+◌, ◌<◌, ◌≤◌, min, cond, ◌&&◌, List, [], ◌∷◌, ◌++◌, length, take, Some, None, Option, Ok, Err, fold, Result, ◌==◌, nat_lt, nat_le, slice_index_or}
 use Rattle.refusal.specs.declared.Refusal.{Refusal}
 use Rattle.refusal.specs.declared.Refusal.TheVariants.{NoPosition, NoTray}
 use Rattle.journal.specs.declared.Entry.{Entry}
@@ -25,10 +25,10 @@ replay limit rs = fold (step limit) [] rs
 abbrev pub entry_at : List Entry → ℕ → Result Entry Refusal
 entry_at es i = cond (nat_lt i (length es)) (Ok (slice_index_or es i blank)) (Err NoPosition)
 
--- what is known of one position after a record: the entry that was appended there, else what was known
-abbrev pub found_after : Record → Bool → Entry → Entry
-found_after (Append e) reached known = cond reached e known
-found_after (Keep n) reached known = known
+-- what a list of n entries has at a position after a record: the entry appended there, nothing where it was cut, else what it had
+abbrev pub found_after : ℕ → ℕ → ℕ → Option Entry → Record → Option Entry
+found_after limit n i known (Append e) = cond (n == i && nat_lt n limit) (Some e) known
+found_after limit n i known (Keep m) = cond (nat_le m i) None known
 
 -- a record added: how many first records then stand for the list with it; 3 and no change where there are not limit + 1 records
 abbrev pub Pushed : ℕ → ℕ → Record → List Record → List Record → Result ℕ Refusal → Type 0

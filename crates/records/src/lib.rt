@@ -5,7 +5,7 @@ ghost use Rattle.std.specs.Prelude.{◌≡◌, ◌<◌, map, length, take};
 ghost use Rattle.records.specs.Replay.{Pushed, entry_at, found_after, replay, step_length};
 ghost use Rattle.records.specs.declared.Record.TheVariants.{Append};
 
-use journal::{Entry, EntryKind};
+use journal::Entry;
 use refusal::Refusal;
 
 // What was done to a list.
@@ -16,29 +16,32 @@ pub enum Record {
     Keep(u16),
 }
 
-const BLANK: Entry = Entry {
-    epoch: 0,
-    kind: EntryKind::Configuration,
-    body: 0,
-};
-
-// How long a list of `live` entries is after one record.
-fn after(limit: u16, live: u16, made: Record) -> u16
-    ensures { result ≡ step_length limit live made }
-{
-    match made {
-        Record::Append(_) => if live < limit { live + 1 } else { live },
-        Record::Keep(count) => live.min(count),
+impl Record {
+    // How long a list of `live` entries is after this record.
+    fn after(self, limit: u16, live: u16) -> u16
+        ensures { result ≡ step_length limit live self }
+    {
+        match self {
+            Record::Append(_) => if live < limit { live + 1 } else { live },
+            Record::Keep(count) => live.min(count),
+        }
     }
-}
 
-// What is known of one position after a record; `reached` says that the list before it ends there.
-fn at_position(made: Record, reached: bool, known: Entry) -> Entry
-    ensures { result ≡ found_after made reached known }
-{
-    match made {
-        Record::Append(entry) if reached => entry,
-        _ => known,
+    // What a list of `live` entries has at a position after this record, where it had `known` there.
+    fn at_position(
+        self,
+        limit: u16,
+        live: u16,
+        position: u16,
+        known: Option<Entry>,
+    ) -> Option<Entry>
+        ensures { result ≡ found_after limit live position known self }
+    {
+        match self {
+            Record::Append(entry) if live == position && live < limit => Some(entry),
+            Record::Keep(count) if count <= position => None,
+            _ => known,
+        }
     }
 }
 
@@ -46,11 +49,9 @@ fn at_position(made: Record, reached: bool, known: Entry) -> Entry
 pub fn live(limit: u16, records: &[Record]) -> u16
     ensures { result ≡ length (replay limit records.now) }
 {
-    let mut live = 0;
-    for record in records {
-        live = after(limit, live, *record);
-    }
-    live
+    records
+        .iter()
+        .fold(0, |live, record| record.after(limit, live))
 }
 
 // The entry at a position of the list that the records stand for; 50 where there is none.
@@ -58,17 +59,12 @@ pub fn find(limit: u16, records: &[Record], position: u16) -> Result<Entry, Refu
     ensures { result ≡ entry_at (replay limit records.now) position }
 {
     let mut live = 0;
-    let mut found = BLANK;
+    let mut found = None;
     for record in records {
-        // What is appended at the position stays there as long as the list is longer.
-        found = at_position(*record, live == position, found);
-        live = after(limit, live, *record);
+        found = record.at_position(limit, live, position, found);
+        live = record.after(limit, live);
     }
-    if position < live {
-        Ok(found)
-    } else {
-        Err(Refusal::NoPosition)
-    }
+    found.ok_or(Refusal::NoPosition)
 }
 
 // Leaves the live entries alone at the front, and tells how many they are.
@@ -77,11 +73,12 @@ fn rewrite(limit: u16, records: &mut [Record]) -> u16
     ensures front { take result records.new ≡ map Append (replay limit records.old) }
 {
     let mut live = 0;
+    // By index: it writes one place of the slice while it reads another, which no iterator lends, and there is no other memory.
     for i in 0..records.len() {
         let record = records[i];
         // An entry joins the live ones; a keep mark put behind them is not among them.
         records[live as usize] = record;
-        live = after(limit, live, record);
+        live = record.after(limit, live);
     }
     live
 }

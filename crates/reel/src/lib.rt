@@ -2,18 +2,17 @@
 #![tactic(auto)]
 
 use records::Record;
+use shelf::Shelf;
 
 mod reels;
 
 pub use reels::{lay, measure};
 
-// A reel of which the numbers or the memory do not suffice has no owners and limit 2.
 #[derive(Drop)]
 pub struct Reel<'a> {
-    // Owner i has the limit + 1 places from i * (limit + 1) on.
-    records: &'a mut [Record],
-    // How many records of each owner are in use.
-    used: &'a mut [u16],
-    owners: usize,
-    limit: usize,
+    // An owner's list is what its records in use leave when replayed.
+    records: Records<'a>,
 }
+
+// One spare place: where all are in use, rewriting leaves one free.
+type Records<'a> = Shelf<'a, Record, 1>;

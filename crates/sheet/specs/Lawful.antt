@@ -1,23 +1,16 @@
 -- That a sheet is a journal. Assumes nothing.
-use Rattle.std.specs.Prelude.{◌≡◌, ℕ, ◌*◌, ◌≤◌, min, true, false, cond, [], length, drop, nat_lt, slice_index}
-use Rattle.std.proofs.Common.{zero-le, arith, length-take}
-use Rattle.std.proofs.lemmas.Bool.{cond-false, le-ltb}
+use Rattle.std.specs.Prelude.{ℕ, ◌≤◌, length}
+use Rattle.std.proofs.Common.{arith}
 use Rattle.journal.specs.Lists.{Laws}
+use Rattle.shelf.specs.Lawful.{owners_most, limit_least, limit_most, used_within, used_unowned}
 use Rattle.sheet.specs.declared.Sheet.{Sheet}
-use Rattle.sheet.specs.Rows.{row}
-use Rattle.sheet.specs.Meaning.{lists_of}
+use Rattle.sheet.specs.Meaning.{owners_of, limit_of, lists_of}
 
 -- no list is longer than a row
-pub lists_within : (s : Sheet) (p : ℕ) → length (lists_of s p) ≤ s.limit
-lists_within s p =
-    let l = length-take (min (slice_index s.lengths.now p) s.limit) (drop (p * s.limit) s.rows.now) in
-    elim (nat_lt p s.owners) as (λ b. length (cond b (row s.limit s.rows.now s.lengths.now p) []) ≤ s.limit)
-    [ true ↦ omega arith | false ↦ zero-le ]
-
--- past the last owner there is no list
-pub lists_unowned : (s : Sheet) (p : ℕ) → s.owners ≤ p → lists_of s p ≡ []
-lists_unowned s p h = cond-false (nat_lt p s.owners) (row s.limit s.rows.now s.lengths.now p) [] (le-ltb p s.owners h)
+pub lists_within : (s : Sheet) (p : ℕ) → length (lists_of s p) ≤ limit_of s
+lists_within s p = let w = used_within s.rows p in omega arith
 
 -- a sheet is a journal
-pub sheet_laws : Laws (λ (s : Sheet). s.owners) (λ s. s.limit) lists_of
-sheet_laws = record { owners_most = λ s. s.few; limit_least = λ s. s.least; limit_most = λ s. s.most; within = lists_within; unowned = lists_unowned }
+pub sheet_laws : Laws owners_of limit_of lists_of
+sheet_laws =
+    record { owners_most = λ s. owners_most s.rows; limit_least = λ s. limit_least s.rows; limit_most = λ s. limit_most s.rows; within = lists_within; unowned = λ s. used_unowned s.rows }

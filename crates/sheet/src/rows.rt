@@ -1,21 +1,17 @@
 ghost use Rattle.std.specs.Prelude.{◌≡◌, ℕ, ◌*◌, [], length};
 ghost use Rattle.journal.specs.Makes.{made_limit, made_owners, measure_answer};
 ghost use Rattle.sheet.specs.Lawful.{sheet_laws};
-ghost use Rattle.sheet.specs.Meaning.{lists_of};
+ghost use Rattle.sheet.specs.Meaning.{limit_of, lists_of, owners_of};
 
-use crate::Sheet;
-use journal::{Entry, Journal, check_bounds};
+use crate::{Rows, Sheet};
+use journal::{Entry, Journal};
 use refusal::Refusal;
 
 // Whether a sheet can be made: 1 for a number outside its bounds, 3 for too little memory.
 pub fn measure(rows: &[Entry], lengths: &[u16], owners: usize, limit: usize) -> Result<(), Refusal>
     ensures { result ≡ measure_answer owners limit (owners * limit) (length rows.now) (length lengths.now) }
 {
-    check_bounds(owners, limit)?;
-    if rows.len() < owners * limit || lengths.len() < owners {
-        return Err(Refusal::NoTray);
-    }
-    Ok(())
+    Rows::measure(rows, lengths, owners, limit)
 }
 
 // The empty sheet over this memory; where `measure` refuses, a sheet without owners and with limit 2.
@@ -25,77 +21,59 @@ pub fn lay<'a>(
     owners: usize,
     limit: usize,
 ) -> Sheet<'a>
-    ensures owners { result.owners ≡ made_owners owners (measure_answer owners limit (owners * limit) (length rows.old) (length lengths.old)) }
-    ensures limit { result.limit ≡ made_limit limit (measure_answer owners limit (owners * limit) (length rows.old) (length lengths.old)) }
+    ensures owners { owners_of result ≡ made_owners owners (measure_answer owners limit (owners * limit) (length rows.old) (length lengths.old)) }
+    ensures limit { limit_of result ≡ made_limit limit (measure_answer owners limit (owners * limit) (length rows.old) (length lengths.old)) }
     ensures empty { (p : ℕ) → lists_of result p ≡ [] }
 {
-    match measure(rows, lengths, owners, limit) {
-        Ok(()) => {
-            lengths.fill(0);
-            Sheet {
-                rows,
-                lengths,
-                owners: owners as u16,
-                limit: limit as u16,
-            }
-        }
-        Err(_) => Sheet {
-            rows,
-            lengths,
-            owners: 0,
-            limit: 2,
-        },
+    Sheet {
+        rows: Rows::lay(rows, lengths, owners, limit),
     }
 }
 
 impl Journal for Sheet<'_> {
-    ghost owners = { λ s. s.owners };
+    ghost owners = { owners_of };
 
-    ghost limit = { λ s. s.limit };
+    ghost limit = { limit_of };
 
     ghost lists = { lists_of };
 
     ghost laws = { sheet_laws };
 
     fn owners(&self) -> u16 {
-        self.owners
+        self.rows.owners()
     }
 
     fn limit(&self) -> u16 {
-        self.limit
+        self.rows.limit()
     }
 
     fn length(&self, owner: u16) -> Result<u16, Refusal> {
-        if owner >= self.owners {
-            return Err(Refusal::NoCabinet);
-        }
-        Ok(self.lengths[owner as usize].min(self.limit))
+        Ok(self.rows.used(owner)?.len() as u16)
     }
 
     fn entry(&self, owner: u16, position: u16) -> Result<Entry, Refusal> {
-        let length = self.length(owner)?;
-        if position >= length {
-            return Err(Refusal::NoPosition);
-        }
-        Ok(self.rows[owner as usize * self.limit as usize + position as usize])
+        let list = self.rows.used(owner)?;
+        list.get(position as usize)
+            .copied()
+            .ok_or(Refusal::NoPosition)
     }
 
     fn append(&mut self, owner: u16, entry: Entry) -> Result<(), Refusal> {
-        let length = self.length(owner)?;
-        if length >= self.limit {
+        let row = self.rows.row(owner)?;
+        // Here and in the reel: a helper over `Journal` is refused within the impl, as its call leads back to it.
+        if row.used >= self.limit() as usize {
             return Err(Refusal::Full);
         }
-        self.rows[owner as usize * self.limit as usize + length as usize] = entry;
-        self.lengths[owner as usize] = length + 1;
+        self.rows.places[row.start + row.used] = entry;
+        self.rows.counts[owner as usize] = row.used as u16 + 1;
         Ok(())
     }
 
     fn keep(&mut self, owner: u16, count: u16) -> Result<(), Refusal> {
-        let length = self.length(owner)?;
-        if count > length {
+        if count > self.length(owner)? {
             return Err(Refusal::ListShort);
         }
-        self.lengths[owner as usize] = count;
+        self.rows.counts[owner as usize] = count;
         Ok(())
     }
 }

@@ -1,5 +1,5 @@
-use Rattle.std.proofs.Common.{◌≡◌, ◌<◌, length, get_or, take}
-use Rattle.journal.specs.Entries.{blank}
+use Rattle.std.proofs.Common.{◌≡◌, length, take}
+use Rattle.std.specs.Prelude.{slice_get}
 use Rattle.records.specs.Replay.{replay}
 use Rattle.records.proofs.find.Given as goal
 
@@ -7,4 +7,4 @@ use Rattle.records.proofs.find.Given as goal
 abbrev pub invariant-loop-record : goal.invariant-loop-record
 invariant-loop-record l =
     (l.live ≡ length (replay l.limit (take l.record-index l.records)))
-    × (l.position < l.live → get_or (replay l.limit (take l.record-index l.records)) l.position blank ≡ l.found)
+    × (l.found ≡ slice_get (replay l.limit (take l.record-index l.records)) l.position)

@@ -1,21 +1,12 @@
-use Rattle.std.proofs.Common.{refl, arith}
-use Rattle.std.proofs.lemmas.Bool.Decides.{nat_tests}
-use Rattle.sheet.proofs.Places.{told, lists_append}
+use Rattle.std.proofs.Common.{◌+◌, add-zero, arith}
+use Rattle.shelf.proofs.Places.{told}
+use Rattle.sheet.proofs.Places.{lists_append}
 use Rattle.sheet.proofs.rows.SheetJournal.append.Goals as goal
 
-pub bounds-self-owner : goal.bounds-self-owner
-bounds-self-owner c =
-    let s = c.args.self.now in
-    let t = told s.owners s.limit s.rows.now s.lengths.now c.args.owner c.in_ok-length.length s.places c.in_ok-length.ensures in
-    omega arith
-
-pub returns : goal.returns
-returns c =
-    let s = c.args.self.now in
-    let answered = c.in_ok-length.ensures in
-    record {
-      answer = grind (arith, nat_tests);
-      lists = lists_append s.owners s.limit s.rows.now s.lengths.now c.args.owner c.in_ok-length.length c.args.entry s.places s.counted answered c.if-length-self.false;
-      owners = refl;
-      limit = refl;
-    }
+pub returns-clause-lists : goal.returns-clause-lists
+returns-clause-lists c =
+    let s = c.args.self.now.rows in
+    let row = c.in_ok-row.row in
+    let t = told s c.args.owner row c.in_ok-row.ensures.answer in
+    let within = c.in_ok-row.ensures.within in
+    lists_append s.owners s.limit (s.limit + 0) s.places.now s.counts.now c.args.owner row.start row.used c.args.entry (add-zero s.limit) t.0 t.1 (omega arith) (omega arith) t.3 (omega arith)
