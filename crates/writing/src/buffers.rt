@@ -1,6 +1,5 @@
 // Bytes into a buffer.
-ghost use Rattle.std.specs.Prelude.{◌≡◌, ◌+◌, ◌-◌, ◌*◌, ◌≤◌, ◌++◌, length, take, replicate};
-ghost use Rattle.entries.specs.Bytes.{Octets};
+ghost use Rattle.std.specs.Prelude.{◌≡◌, ℕ, ◌+◌, ◌-◌, ◌*◌, ◌≤◌, List, ◌++◌, length, take, replicate};
 ghost use Rattle.frames.specs.Letters.{frame_length, header_bytes};
 ghost use Rattle.writing.specs.Writing.{over};
 
@@ -58,18 +57,34 @@ pub(crate) fn header_bytes(fields: &Fields) -> [u8; 24]
     ]
 }
 
-// The frame of these fields and of the first entries in `bytes`, with zeros behind it.
-pub(crate) fn put_frame(fields: &Fields, bytes: &[u8], out: &mut [u8]) -> u16
+// What lies behind a frame's header.
+pub(crate) trait Part: Drop {
+    ghost bytes: { Self → List ℕ };
+
+    fn put_part(&self, out: &mut [u8])
+        requires { 24 + length (bytes self.now) ≤ length out.old }
+        ensures { out.new ≡ over out.old 24 (bytes self.now) };
+}
+
+impl Part for &[u8] {
+    ghost bytes = { λ bytes. bytes.now };
+
+    fn put_part(&self, out: &mut [u8]) {
+        put(out, 24, self);
+    }
+}
+
+// The frame of these fields and of what lies behind its header, with zeros behind it.
+pub(crate) fn put_frame<P: Part>(fields: &Fields, part: P, out: &mut [u8]) -> u16
     requires count { fields.now.count ≤ 4000 }
-    requires bytes { 16 * fields.now.count ≤ length bytes.now }
+    requires bytes { length (P.bytes part) ≡ 16 * fields.now.count }
     requires room { frame_length fields.now.count ≤ length out.old }
-    ensures octets { Octets bytes.now }
     ensures answer { result ≡ frame_length fields.now.count }
-    ensures buffer { out.new ≡ (header_bytes fields.now ++ take (16 * fields.now.count) bytes.now) ++ replicate (length out.old - frame_length fields.now.count) 0 }
+    ensures buffer { out.new ≡ (header_bytes fields.now ++ P.bytes part) ++ replicate (length out.old - frame_length fields.now.count) 0 }
 {
     let end = 24 + 16 * fields.count;
     put(out, 0, &header_bytes(fields));
-    put(out, 24, &bytes[0..16 * fields.count]);
+    part.put_part(out);
     clear(out, end);
     end as u16
 }
