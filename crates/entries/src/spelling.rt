@@ -41,6 +41,7 @@ pub(crate) fn entry_in(bytes: &[u8; 16]) -> Entry
 }
 
 // The bytes of each entry; less than 16 at the end spell none.
+#[tactic(auto, using(crate::proofs::Places::chunks_spell))]
 pub(crate) fn parts(bytes: &[u8]) -> &[[u8; 16]]
     ensures { map entry_in result.now ≡ entries_of bytes.now }
 {
