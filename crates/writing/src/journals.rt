@@ -6,7 +6,7 @@ ghost use Rattle.refusal.specs.Answers.{and_then};
 ghost use Rattle.frames.specs.Letters.{fields_of};
 ghost use Rattle.writing.specs.Writing.{history_answer, history_of, written};
 
-use crate::buffers::{Part, put, put_frame};
+use crate::buffers::{Layout, Part, put};
 use crate::writer::{bare, check_room};
 use entries::{bytes_of, is_list_faultless};
 use frames::{Fields, FrameKind, check_bounds, check_count, check_fields};
@@ -78,5 +78,6 @@ pub fn write_history<K: OrderKind, J: Journal>(
     ensures buffer { out.new ≡ written out.old (history_of sender epoch mark (J.lists journal.now owner)) (history_answer (codes_of K.decode) cabinets (J.limit journal.now) (J.owners journal.now) owner (length out.old) (history_of sender epoch mark (J.lists journal.now owner))) }
 {
     let fields = check_history::<K, J>(cabinets, sender, epoch, mark, journal, owner, out.len())?;
-    Ok(put_frame(&fields, Listed { journal, owner }, out))
+    let part = Listed { journal, owner };
+    Ok(Layout { fields, part }.put(out))
 }

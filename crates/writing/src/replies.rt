@@ -1,31 +1,17 @@
 // What a cabinet says, as a frame in the caller's buffer: nothing is asked but the list, the entry that is named, and room.
-ghost use Rattle.std.specs.Prelude.{◌≡◌, ◌-◌, ◌*◌, ◌≤◌, ◌++◌, length, replicate, Ok};
+ghost use Rattle.std.specs.Prelude.{◌≡◌, length};
 ghost use Rattle.cabinet.specs.declared.Reply.TheVariants.{Entry as EntryReply, History as HistoryReply};
-ghost use Rattle.frames.specs.Letters.{frame_length, header_bytes};
-ghost use Rattle.refusal.specs.Answers.{and_then};
 ghost use Rattle.writing.specs.Replies.{bare_answer, bare_frame, filled_by, reply_answer};
 ghost use Rattle.writing.specs.Speaking.{letter_said, spoken_into};
-ghost use Rattle.writing.specs.Writing.{room_answer};
 
-use crate::buffers::{Part, put_frame};
+use crate::buffers::Layout;
 use crate::journals::Listed;
-use crate::writer::{bare, check_room};
+use crate::writer::bare;
 use cabinet::Reply;
 use entries::bytes_of;
 use frames::{Fields, FrameKind};
 use journal::Journal;
 use refusal::Refusal;
-
-// The frame of these fields and of what lies behind its header, where there is room for it.
-fn put_if_room<P: Part>(fields: &Fields, part: P, out: &mut [u8]) -> Result<u16, Refusal>
-    requires count { fields.now.count ≤ 4000 }
-    requires bytes { length (P.bytes part) ≡ 16 * fields.now.count }
-    ensures answer { result ≡ and_then (room_answer (length out.old) fields.now) (λ _. Ok (frame_length fields.now.count)) }
-    ensures buffer { out.new ≡ filled_by out.old ((header_bytes fields.now ++ P.bytes part) ++ replicate (length out.old - frame_length fields.now.count) 0) (and_then (room_answer (length out.old) fields.now) (λ _. Ok (frame_length fields.now.count))) }
-{
-    check_room(out.len(), fields)?;
-    Ok(put_frame(fields, part, out))
-}
 
 // The owner's list as a history.
 fn write_list<J: Journal>(
@@ -46,7 +32,8 @@ fn write_list<J: Journal>(
         first: mark as u32,
         ..bare(sender, epoch)
     };
-    put_if_room(&fields, Listed { journal, owner }, out)
+    let part = Listed { journal, owner };
+    Layout { fields, part }.put_if_room(out)
 }
 
 // One entry of the owner's list.
@@ -70,7 +57,9 @@ fn write_entry<J: Journal>(
         second: mark as u32,
         ..bare(sender, epoch)
     };
-    put_if_room(&fields, bytes_of(entry).as_slice(), out)
+    let bytes = bytes_of(entry);
+    let part = bytes.as_slice();
+    Layout { fields, part }.put_if_room(out)
 }
 
 // A frame without entries.
@@ -91,7 +80,8 @@ fn write_bare(
         second: second as u32,
         ..bare(sender, epoch)
     };
-    put_if_room::<&[u8]>(&fields, &[], out)
+    let part: &[u8] = &[];
+    Layout { fields, part }.put_if_room(out)
 }
 
 // What a cabinet says of its own list, as a frame with zeros behind it; answers the frame's length, and 0 for nothing.

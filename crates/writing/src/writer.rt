@@ -7,7 +7,7 @@ ghost use Rattle.std.specs.Prelude.{◌≡◌, ◌*◌, ◌≤◌, length, take,
 ghost use Rattle.frames.specs.Reading.{letter};
 ghost use Rattle.writing.specs.Writing.{borrowed, room_answer, write_answer, written};
 
-use crate::buffers::put_frame;
+use crate::buffers::Layout;
 use frames::{Fields, Frame, FrameKind, Message, check_bounds, check_count, check_ranges};
 use orders::OrderKind;
 use refusal::Refusal;
@@ -134,5 +134,5 @@ pub fn write<K: OrderKind>(
 {
     let fields = check::<K>(cabinets, limit, frame, out.len())?;
     let part = front(borrowed(frame.message), fields.count);
-    Ok(put_frame(&fields, part, out))
+    Ok(Layout { fields, part }.put(out))
 }
