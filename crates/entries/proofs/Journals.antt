@@ -20,10 +20,6 @@ entry_tells owners o i e ls told = grind (arith, nat_tests)
 pub owned_ok : {X : Type 0} (owners o : ℕ) (x y : X) → o < owners → x ≡ y → ◌≡◌ {A = Result X Refusal} (Ok x) (owned owners o (Ok y))
 owned_ok {X} owners o x y h same = ap (λ (z : X). Ok z) same ∙ sym (cond-true (ltb o owners) (Ok y) (Err NoCabinet) (lt-ltb o owners h))
 
--- no entry of an owner's list is refused
-pub entry_there : (owners o i : ℕ) (e : Refusal) (ls : ℕ → List Entry) → o < owners → i < length (ls o) → Err e ≡ entry_answer owners ls o i → ⊥
-entry_there owners o i e ls owner there told = grind (arith, nat_tests)
-
 -- what is answered for an owner is answered where there is one
 pub owned_tells : {X : Type 0} (owners o : ℕ) (r : Result X Refusal) (x : X) → owned owners o r ≡ Ok x → (o < owners) × (r ≡ Ok x)
 owned_tells owners o r x told =

@@ -1,11 +1,11 @@
--- The entries that bytes spell, by place, and how a check goes along them. Assumes nothing.
-use Rattle.std.proofs.Common.{◌≡◌, ℕ, ◌+◌, ◌/◌, ◌<◌, ◌≤◌, Bool, true, false, ◌&&◌, List, ◌∷◌, length, get_or, drop, ap, ◌∙◌, zero-add}
+-- The entries that bytes spell, by place and one behind another. Assumes nothing.
+use Rattle.std.proofs.Common.{◌≡◌, ℕ, zero, suc, ◌+◌, ◌-◌, ◌*◌, ◌/◌, ◌<◌, List, map, length, get_or, take, drop, sym, refl, ap, ◌∙◌, zero-add, arith}
+use Rattle.std.specs.List.{range_with_len}
+use Rattle.std.specs.Simd.{first_chunks}
 use Rattle.std.proofs.lemmas.List.FromFn.{length-map-range_with_len, get_or-map-range_with_len}
-use Rattle.std.proofs.lemmas.List.{drop_more, drop_all}
-use Rattle.journal.specs.declared.Entry.{Entry}
+use Rattle.std.proofs.lemmas.List.{drop-drop}
 use Rattle.journal.specs.Entries.{blank}
-use Rattle.entries.specs.Entries.{entry_at, entries_of}
-use Rattle.entries.specs.Histories.{entry_fits, goes_on}
+use Rattle.entries.specs.Entries.{entry_in, entry_at, entries_of}
 
 -- bytes spell an entry for each 16 of them
 pub entries_length : (bs : List ℕ) → length (entries_of bs) ≡ length bs / 16
@@ -15,18 +15,16 @@ entries_length bs = length-map-range_with_len (entry_at bs) 0 (length bs / 16)
 pub entries_at : (bs : List ℕ) (k : ℕ) → k < length bs / 16 → get_or (entries_of bs) k blank ≡ entry_at bs k
 entries_at bs k h = get_or-map-range_with_len (entry_at bs) 0 (length bs / 16) k k blank h (zero-add k)
 
--- a check along a list goes on behind an entry that fits
-pub goes_on_more : (codes : ℕ → Bool) (cabinets most last : ℕ) (es : List Entry) (k : ℕ) (e : Entry) → k < length es → get_or es k blank ≡ e → entry_fits codes cabinets most last e ≡ true → goes_on codes cabinets most last (drop k es) ≡ goes_on codes cabinets most e.epoch (drop (k + 1) es)
-goes_on_more codes cabinets most last es k e h is fits =
-    ap (goes_on codes cabinets most last) (drop_more es k blank h ∙ ap (λ (x : Entry). x ∷ drop (k + 1) es) is)
-    ∙ ap (λ (b : Bool). b && goes_on codes cabinets most e.epoch (drop (k + 1) es)) fits
+-- the parts of 16 bytes from a place on spell the entries from there on
+chunks_from : (bs : List ℕ) (j k : ℕ) → map entry_in (first_chunks 16 k (drop (16 * j) bs)) ≡ map (entry_at bs) (range_with_len j k)
+chunks_from bs j zero = refl
+chunks_from bs j (suc k) =
+    let width : 16 * j + 16 - 16 * j ≡ 16 = omega arith in
+    let next : 16 * j + 16 ≡ 16 * (j + 1) = omega arith in
+    let first = ap (λ w. entry_in (take w (drop (16 * j) bs))) (sym width) in
+    let rest = ap (λ xs. map entry_in (first_chunks 16 k xs)) (drop-drop 16 (16 * j) bs ∙ ap (λ n. drop n bs) next) ∙ chunks_from bs (j + 1) k in
+    cc
 
--- it stops at an entry that does not
-pub goes_on_not : (codes : ℕ → Bool) (cabinets most last : ℕ) (es : List Entry) (k : ℕ) (e : Entry) → k < length es → get_or es k blank ≡ e → entry_fits codes cabinets most last e ≡ false → goes_on codes cabinets most last (drop k es) ≡ false
-goes_on_not codes cabinets most last es k e h is fits =
-    ap (goes_on codes cabinets most last) (drop_more es k blank h ∙ ap (λ (x : Entry). x ∷ drop (k + 1) es) is)
-    ∙ ap (λ (b : Bool). b && goes_on codes cabinets most e.epoch (drop (k + 1) es)) fits
-
--- at the list's end nothing is left to check
-pub goes_on_all : (codes : ℕ → Bool) (cabinets most last : ℕ) (es : List Entry) (k : ℕ) → length es ≤ k → goes_on codes cabinets most last (drop k es) ≡ true
-goes_on_all codes cabinets most last es k h = ap (goes_on codes cabinets most last) (drop_all k es h)
+-- the parts of 16 bytes spell the entries
+pub chunks_spell : (bs : List ℕ) → map entry_in (first_chunks 16 (length bs / 16) bs) ≡ entries_of bs
+chunks_spell bs = chunks_from bs 0 (length bs / 16)

@@ -1,20 +1,15 @@
 -- A list that is replaced, entry by entry. Assumes nothing.
 use Rattle.std.proofs.Common.{◌≡◌, ℕ, ◌+◌, ◌<◌, ◌≤◌, cond, eqb, List, length, get_or, take, Ok, refl, ap, ◌∙◌, arith}
-use Rattle.std.proofs.lemmas.List.{take_more, take_all, length-take-le}
+use Rattle.std.proofs.lemmas.List.{take_more, length-take-le}
 use Rattle.std.proofs.lemmas.Bool.{eq-eqb, cond-true}
 use Rattle.std.proofs.lemmas.Bool.Decides.{nat_tests}
 use Rattle.journal.specs.declared.Entry.{Entry}
 use Rattle.journal.specs.Entries.{blank}
-use Rattle.journal.specs.Lists.{append_answer, append_lists, keep_lists}
-use Rattle.entries.specs.Replacing.{replace_lists}
+use Rattle.journal.specs.Lists.{append_answer, append_lists}
 
 -- the owner's list is the first k entries, and every other is as it was
 abbrev pub Begun : ℕ → ℕ → List Entry → (ℕ → List Entry) → (ℕ → List Entry) → Type 0
 Begun o k es was ls = (p : ℕ) → ls p ≡ cond (eqb p o) (take k es) (was p)
-
--- with nothing kept, none of them is there
-pub begun_none : (owners o : ℕ) (es : List Entry) (was kept : ℕ → List Entry) → o < owners → ((p : ℕ) → kept p ≡ keep_lists owners was o 0 p) → Begun o 0 es kept kept
-begun_none owners o es was kept owned keeps p = let k = keeps p in grind (arith, nat_tests)
 
 -- so far the list is as long as the entries appended
 pub begun_length : (o k : ℕ) (es : List Entry) (was ls : ℕ → List Entry) → k ≤ length es → Begun o k es was ls → length (ls o) ≡ k
@@ -31,12 +26,4 @@ begun_more owners limit o k e es was ls more owned h small is begun adds p =
     let b = begun p in
     let n = begun_length o k es was ls (omega arith) begun in
     let t = take_more es k blank h in
-    grind (arith, nat_tests)
-
--- all of them
-pub begun_all : (owners limit o k : ℕ) (es : List Entry) (was kept ls : ℕ → List Entry) → o < owners → length es ≤ k → length es ≤ limit → ((p : ℕ) → kept p ≡ keep_lists owners was o 0 p) → Begun o k es kept ls → (p : ℕ) → ls p ≡ replace_lists owners limit was o es p
-begun_all owners limit o k es was kept ls owned h small keeps begun p =
-    let a = keeps p in
-    let b = begun p in
-    let t = take_all k es h in
     grind (arith, nat_tests)

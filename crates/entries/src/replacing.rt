@@ -3,7 +3,7 @@ ghost use Rattle.std.specs.Prelude.{◌≡◌, ℕ};
 ghost use Rattle.entries.specs.Entries.{entries_of};
 ghost use Rattle.entries.specs.Replacing.{replace_answer, replace_lists};
 
-use crate::spelling::entry_at;
+use crate::spelling::{entry_in, parts};
 use journal::Journal;
 use refusal::Refusal;
 
@@ -18,13 +18,13 @@ pub fn replace<J: Journal>(journal: &mut J, owner: u16, bytes: &[u8]) -> Result<
     if owner >= journal.owners() {
         return Err(Refusal::NoCabinet);
     }
-    let count = bytes.len() / 16;
-    if count > journal.limit() as usize {
+    let parts = parts(bytes);
+    if parts.len() > journal.limit() as usize {
         return Err(Refusal::Full);
     }
     journal.keep(owner, 0)?;
-    for k in 0..count {
-        journal.append(owner, entry_at(bytes, k))?;
+    for part in parts {
+        journal.append(owner, entry_in(part))?;
     }
     Ok(())
 }

@@ -26,14 +26,11 @@ pub fn body_fits<K: OrderKind>(cabinets: u8, entry: Entry) -> bool
 pub fn entry_fits<K: OrderKind>(cabinets: u8, most: u32, last: u32, entry: Entry) -> bool
     ensures { result ≡ entry_fits (codes_of K.decode) cabinets most last entry }
 {
-    last <= entry.epoch && entry.epoch <= most && body_fits::<K>(cabinets, entry)
+    (last..=most).contains(&entry.epoch) && body_fits::<K>(cabinets, entry)
 }
 
 pub fn is_founding(entry: Entry) -> bool
     ensures { result ≡ founding entry }
 {
-    match entry.kind {
-        EntryKind::Configuration => entry.epoch == 0,
-        EntryKind::Order => false,
-    }
+    entry.kind == EntryKind::Configuration && entry.epoch == 0
 }

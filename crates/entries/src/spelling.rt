@@ -1,75 +1,61 @@
-// Entries in bytes, by fixed-width reads.
-ghost use Rattle.std.specs.Prelude.{◌≡◌, ◌+◌, ◌*◌, ◌≤◌, length};
-ghost use Rattle.entries.specs.Bytes.{u32_at, u64_at};
-ghost use Rattle.entries.specs.Entries.{entries_of, entry_at, entry_bytes, entry_in, place_answer, spelled};
+// Entries in bytes, 16 for each.
+ghost use Rattle.std.specs.Prelude.{◌≡◌, map};
+ghost use Rattle.entries.specs.Entries.{entries_of, entry_bytes, entry_in, place_answer};
 
 use journal::{Entry, EntryKind};
 use refusal::Refusal;
 
-fn u32_at(bytes: &[u8], at: usize) -> u32
-    requires { at + 4 ≤ length bytes.now }
-    ensures { result ≡ u32_at bytes.now at }
-{
-    u32::from_le_bytes([bytes[at], bytes[at + 1], bytes[at + 2], bytes[at + 3]])
-}
-
-fn u64_at(bytes: &[u8], at: usize) -> u64
-    requires { at + 8 ≤ length bytes.now }
-    ensures { result ≡ u64_at bytes.now at }
-{
-    u32_at(bytes, at) as u64 + ((u32_at(bytes, at + 4) as u64) << 32)
-}
-
-fn is_spelled(bytes: &[u8]) -> bool
-    requires { 16 ≤ length bytes.now }
-    ensures { result ≡ spelled bytes.now }
-{
-    let kind = bytes[4];
-    1 <= kind && kind <= 2 && bytes[5] == 0 && bytes[6] == 0 && bytes[7] == 0
-}
-
-// What stands for 16 bytes that spell no entry: its members are none, which is a fault.
-const BLANK: Entry = Entry {
-    epoch: 0,
-    kind: EntryKind::Configuration,
-    body: 0,
-};
-
-fn entry_in(bytes: &[u8]) -> Entry
-    requires { 16 ≤ length bytes.now }
+// The entry that 16 bytes spell: the blank one, which no history may hold, where they spell none.
+pub(crate) fn entry_in(bytes: &[u8; 16]) -> Entry
     ensures { result ≡ entry_in bytes.now }
 {
-    if !is_spelled(bytes) {
-        return BLANK;
-    }
-    let kind = if bytes[4] == 1 {
-        EntryKind::Configuration
-    } else {
-        EntryKind::Order
+    let [
+        e0,
+        e1,
+        e2,
+        e3,
+        kind,
+        0,
+        0,
+        0,
+        b0,
+        b1,
+        b2,
+        b3,
+        b4,
+        b5,
+        b6,
+        b7,
+    ] = *bytes
+    else {
+        return Entry::BLANK;
+    };
+    let Ok(kind) = EntryKind::try_from(kind) else {
+        return Entry::BLANK;
     };
     Entry {
-        epoch: u32_at(bytes, 0),
+        epoch: u32::from_le_bytes([e0, e1, e2, e3]),
         kind,
-        body: u64_at(bytes, 8),
+        body: u64::from_le_bytes([b0, b1, b2, b3, b4, b5, b6, b7]),
     }
 }
 
-pub(crate) fn entry_at(bytes: &[u8], k: usize) -> Entry
-    requires { 16 * k + 16 ≤ length bytes.now }
-    ensures { result ≡ entry_at bytes.now k }
+// The bytes of each entry; less than 16 at the end spell none.
+#[tactic(auto, using(crate::proofs::Places::chunks_spell))]
+pub(crate) fn parts(bytes: &[u8]) -> &[[u8; 16]]
+    ensures { map entry_in result.now ≡ entries_of bytes.now }
 {
-    entry_in(&bytes[16 * k..16 * k + 16])
+    bytes.as_chunks().0
 }
 
 // The entry at a place of a message's bytes: 50 where there is none.
 pub fn entry(bytes: &[u8], place: usize) -> Result<Entry, Refusal>
     ensures { result ≡ place_answer (entries_of bytes.now) place }
 {
-    if place < bytes.len() / 16 {
-        Ok(entry_at(bytes, place))
-    } else {
-        Err(Refusal::NoPosition)
-    }
+    parts(bytes)
+        .get(place)
+        .map(entry_in)
+        .ok_or(Refusal::NoPosition)
 }
 
 // The 16 bytes of an entry.

@@ -22,8 +22,3 @@ and_then_ok (Err e) f y h = absurd (let z : ◌≡◌ {A = ℕ} 0 1 = cc in omeg
 pub checked : {Y : Type 0} (b : Bool) (e : Refusal) (f : Unit {0} → Result Y Refusal) (y : Y) → and_then (unless b e) f ≡ Ok y → (b ≡ true) × (f tt ≡ Ok y)
 checked true e f y h = (refl, h)
 checked false e f y h = absurd (let z : ◌≡◌ {A = ℕ} 0 1 = cc in omega arith)
-
--- a chain that ends in a value is refused as its first answer is
-pub and_then_err : {X Y : Type 0} (r : Result X Refusal) (y : Y) (e : Refusal) → and_then r (λ _. Ok y) ≡ Err e → r ≡ Err e
-and_then_err (Ok x) y e h = absurd (let z : ◌≡◌ {A = ℕ} 0 1 = cc in omega arith)
-and_then_err (Err d) y e h = cc

@@ -5,10 +5,11 @@ ghost use Rattle.std.specs.Prelude.{◌≡◌};
 use crate::{Fields, FrameKind, Header, Numbers};
 use refusal::Refusal;
 
+// The two stay apart, here and below: one is a table's, the other a journal's, and no value holds both.
 pub fn check_bounds(cabinets: u8, limit: u16) -> Result<(), Refusal>
     ensures { result ≡ bounds_answer cabinets limit }
 {
-    if 1 <= cabinets && cabinets <= 16 && 2 <= limit && limit <= 4000 {
+    if (1..=16).contains(&cabinets) && (2..=4000).contains(&limit) {
         Ok(())
     } else {
         Err(Refusal::OutOfBounds)
@@ -19,10 +20,7 @@ pub fn check_bounds(cabinets: u8, limit: u16) -> Result<(), Refusal>
 fn is_zero(bytes: &[u8]) -> bool
     ensures { result ≡ zeros_in bytes.now }
 {
-    let [a, b, c, d, e, f, ..] = bytes else {
-        return false;
-    };
-    *a == 0 && *b == 0 && *c == 0 && *d == 0 && *e == 0 && *f == 0
+    matches!(bytes, [0, 0, 0, 0, 0, 0, ..])
 }
 
 // The numbers that follow a header's epoch.
@@ -62,7 +60,7 @@ fn count_fits(kind: FrameKind, limit: u16, count: usize) -> bool
     ensures { result ≡ count_fits kind limit count }
 {
     match kind {
-        FrameKind::History => 1 <= count && count <= limit as usize,
+        FrameKind::History => (1..=limit as usize).contains(&count),
         FrameKind::Entry => count == 1,
         FrameKind::Candidate | FrameKind::Promise | FrameKind::Acknowledge | FrameKind::Commit =>
             count == 0,
@@ -87,7 +85,7 @@ pub(crate) fn check_shape(limit: u16, room: usize, header: &Header) -> Result<Fi
     if room < header.numbers.length as usize {
         return Err(Refusal::FrameShort);
     }
-    let kind = FrameKind::numbered(header.kind)?;
+    let kind = FrameKind::try_from(header.kind)?;
     let count = header.count as usize;
     if !(count_fits(kind, limit, count)
         && header.numbers.length as usize == 24 + 16 * count
@@ -108,10 +106,7 @@ pub(crate) fn check_shape(limit: u16, room: usize, header: &Header) -> Result<Fi
 fn is_sent_by_owner(kind: FrameKind) -> bool
     ensures { result ≡ sent_by_owner kind }
 {
-    match kind {
-        FrameKind::Candidate | FrameKind::History | FrameKind::Entry | FrameKind::Commit => true,
-        FrameKind::Promise | FrameKind::Acknowledge => false,
-    }
+    !matches!(kind, FrameKind::Promise | FrameKind::Acknowledge)
 }
 
 fn sender_fits(cabinets: u8, kind: FrameKind, epoch: u32, sender: u8) -> bool
@@ -127,11 +122,11 @@ fn numbers_fit(limit: u16, fields: &Fields) -> bool
     let limit = limit as u32;
     let (first, second) = (fields.first, fields.second);
     match fields.kind {
-        FrameKind::Candidate => first < fields.epoch && 1 <= second && second <= limit,
+        FrameKind::Candidate => first < fields.epoch && (1..=limit).contains(&second),
         FrameKind::Promise => first == 0 && second == 0,
-        FrameKind::History => 1 <= first && first as usize <= fields.count && second == 0,
-        FrameKind::Entry => 1 <= first && first < limit && 1 <= second && second <= first + 1,
-        FrameKind::Acknowledge | FrameKind::Commit => 1 <= first && first <= limit && second == 0,
+        FrameKind::History => (1..=fields.count).contains(&(first as usize)) && second == 0,
+        FrameKind::Entry => (1..limit).contains(&first) && (1..=first + 1).contains(&second),
+        FrameKind::Acknowledge | FrameKind::Commit => (1..=limit).contains(&first) && second == 0,
     }
 }
 

@@ -10,34 +10,31 @@ ghost use Rattle.frames.specs.Fields.{kind_number, kind_numbered};
 use refusal::Refusal;
 
 // The kinds of frame.
-#[derive(Clone, Copy)]
+#[derive(Clone, Copy, Debug, PartialEq, Eq)]
 pub enum FrameKind {
-    Candidate,
-    Promise,
-    History,
-    Entry,
-    Acknowledge,
-    Commit,
+    Candidate = 1,
+    Promise = 2,
+    History = 3,
+    Entry = 4,
+    Acknowledge = 5,
+    Commit = 6,
 }
 
 impl FrameKind {
     pub fn number(self) -> u8
         ensures { result ≡ kind_number self }
     {
-        match self {
-            FrameKind::Candidate => 1,
-            FrameKind::Promise => 2,
-            FrameKind::History => 3,
-            FrameKind::Entry => 4,
-            FrameKind::Acknowledge => 5,
-            FrameKind::Commit => 6,
-        }
+        self as u8
     }
+}
 
-    // The kind of that number: 11 where there is none.
-    pub fn numbered(number: u8) -> Result<FrameKind, Refusal>
-        ensures { result ≡ kind_numbered number }
-    {
+// The kind of a number: 11 where there is none.
+impl TryFrom<u8> for FrameKind {
+    type Error = Refusal;
+
+    ghost try_from_gives = { λ number r. r ≡ kind_numbered number };
+
+    fn try_from(number: u8) -> Result<Self, Refusal> {
         match number {
             1 => Ok(FrameKind::Candidate),
             2 => Ok(FrameKind::Promise),

@@ -41,10 +41,7 @@ fn message_of<'a>(fields: &Fields, part: &'a [u8]) -> Message<'a>
 fn entry_is_of<K: OrderKind>(cabinets: u8, epoch: u32, part: &[u8]) -> bool
     ensures { result ≡ entries_fit (codes_of K.decode) cabinets Entry epoch (entries_of part.now) }
 {
-    match entry(part, 0) {
-        Ok(first) => first.epoch == epoch && body_fits::<K>(cabinets, first),
-        Err(_) => false,
-    }
+    entry(part, 0).is_ok_and(|first| first.epoch == epoch && body_fits::<K>(cabinets, first))
 }
 
 fn entries_fit<K: OrderKind>(cabinets: u8, kind: FrameKind, epoch: u32, part: &[u8]) -> bool

@@ -1,13 +1,18 @@
 -- What an entry's kind and body stand for: what the contracts on entries cite. Assumes nothing.
-use Rattle.std.specs.Prelude.{ℕ, ◌%◌}
+use Rattle.std.specs.Prelude.{ℕ, ◌%◌, cond, Ok, Err, Result, ◌==◌}
 use Rattle.journal.specs.declared.EntryKind.{EntryKind}
 use Rattle.journal.specs.declared.EntryKind.TheVariants.{Configuration, Order}
+use Rattle.journal.specs.declared.UnknownKind.{UnknownKind}
 use Rattle.journal.specs.declared.Entry.{Entry}
 
 -- the number by which frames and people know an entry's kind
 abbrev pub kind_number : EntryKind → ℕ
 kind_number Configuration = 1
 kind_number Order = 2
+
+-- the kind of that number, which may be of none
+abbrev pub kind_numbered : ℕ → Result EntryKind UnknownKind
+kind_numbered n = cond (n == 1) (Ok Configuration) (cond (n == 2) (Ok Order) (Err (record { 0 = n })))
 
 -- the members that a configuration's body names: cabinet i is the bit worth 2 to the power i
 abbrev pub members_of : ℕ → ℕ

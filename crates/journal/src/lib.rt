@@ -2,31 +2,46 @@
 #![tactic(auto)]
 
 ghost use Rattle.std.specs.Prelude.{◌≡◌, ℕ, List};
-ghost use Rattle.journal.specs.Entries.{kind_number, members_of};
+ghost use Rattle.journal.specs.Entries.{kind_number, kind_numbered, members_of};
 ghost use Rattle.journal.specs.Lists.{Laws, append_answer, append_lists, entry_answer, keep_answer, keep_lists, length_answer};
 ghost use Rattle.journal.specs.Makes.{bounds_answer};
 ghost use Rattle.journal.specs.declared.Entry.{Entry};
 
 use refusal::Refusal;
 
-#[derive(Clone, Copy, PartialEq, Eq)]
+#[derive(Clone, Copy, Debug, PartialEq, Eq)]
 pub enum EntryKind {
-    Configuration,
-    Order,
+    Configuration = 1,
+    Order = 2,
 }
 
 impl EntryKind {
     pub fn number(self) -> u8
         ensures { result ≡ kind_number self }
     {
-        match self {
-            EntryKind::Configuration => 1,
-            EntryKind::Order => 2,
+        self as u8
+    }
+}
+
+// A number that no kind of entry has.
+#[derive(Clone, Copy, Debug, PartialEq, Eq)]
+pub struct UnknownKind(pub u8);
+
+impl TryFrom<u8> for EntryKind {
+    type Error = UnknownKind;
+
+    ghost try_from_gives = { λ number r. r ≡ kind_numbered number };
+
+    fn try_from(number: u8) -> Result<Self, UnknownKind> {
+        match number {
+            1 => Ok(EntryKind::Configuration),
+            2 => Ok(EntryKind::Order),
+            _ => Err(UnknownKind(number)),
         }
     }
 }
 
-#[derive(Clone, Copy, PartialEq, Eq)]
+#[derive(Clone, Copy, Debug, PartialEq, Eq)]
 pub struct Entry {
     pub epoch: u32,
     pub kind: EntryKind,
@@ -35,6 +50,13 @@ pub struct Entry {
 }
 
 impl Entry {
+    // What stands where there is no entry: its members are none, which is a fault.
+    pub const BLANK: Entry = Entry {
+        epoch: 0,
+        kind: EntryKind::Configuration,
+        body: 0,
+    };
+
     // The one place where a configuration's members are read from its body, which may come to hold more.
     pub fn members(self) -> u16
         ensures { result ≡ members_of self.body }
@@ -54,7 +76,7 @@ pub const MOST_LIMIT: usize = 4000;
 pub fn check_bounds(owners: usize, limit: usize) -> Result<(), Refusal>
     ensures { result ≡ bounds_answer owners limit }
 {
-    if owners <= MOST_OWNERS && LEAST_LIMIT <= limit && limit <= MOST_LIMIT {
+    if owners <= MOST_OWNERS && (LEAST_LIMIT..=MOST_LIMIT).contains(&limit) {
         Ok(())
     } else {
         Err(Refusal::OutOfBounds)

@@ -10,7 +10,7 @@ use crate::letters::check_letter;
 use cabinet::{Cabinet, Reply};
 use entries::entry;
 use frames::{Frame, Message, read};
-use journal::{Entry, EntryKind, Journal};
+use journal::{Entry, Journal};
 use messages::{
     take_acknowledge, take_candidate, take_commit, take_entry, take_history, take_promise,
 };
@@ -22,14 +22,7 @@ use refusal::Refusal;
 fn first_entry(bytes: &[u8]) -> Entry
     ensures { result ≡ slice_index_or (entries_of bytes.now) 0 blank }
 {
-    match entry(bytes, 0) {
-        Ok(first) => first,
-        Err(_) => Entry {
-            epoch: 0,
-            kind: EntryKind::Configuration,
-            body: 0,
-        },
-    }
+    entry(bytes, 0).unwrap_or(Entry::BLANK)
 }
 
 // Takes the content of a frame that is for the cabinet.

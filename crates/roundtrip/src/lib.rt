@@ -6,16 +6,12 @@ ghost use Rattle.roundtrip.specs.Trips.{ReadsBack, WritesBack};
 
 use orders::OrderKind;
 
-// A message written as a frame reads back as itself.
-pub fn reads_back<K: OrderKind>() -> u8
+// A message written as a frame reads back as itself: the contract is the theorem, and the call does nothing.
+pub fn reads_back<K: OrderKind>()
     ensures { ReadsBack (codes_of K.decode) }
-{
-    0
-}
+{}
 
 // An accepted frame, written again, gives its own bytes.
-pub fn writes_back<K: OrderKind>() -> u8
+pub fn writes_back<K: OrderKind>()
     ensures { WritesBack (codes_of K.decode) }
-{
-    0
-}
+{}

@@ -115,9 +115,9 @@ fn show_entries(rt: &HostRuntime) -> io::Result<()> {
 
 pub fn show(rt: &HostRuntime) -> io::Result<()> {
     println!(rt; "Frames between {CABINETS} cabinets with lists of at most {LIMIT} entries")?;
-    let _ = reads_back::<orders::SetPoint>();
+    reads_back::<orders::SetPoint>();
     println!(rt; "  proved of every message: written as a frame it reads back as itself")?;
-    let _ = writes_back::<orders::SetPoint>();
+    writes_back::<orders::SetPoint>();
     println!(rt; "  proved of every accepted frame: written again it gives its own bytes")?;
     tour(
         rt,

@@ -1,8 +1,8 @@
 -- Bytes written over a buffer, one part behind the other. Assumes nothing.
-use Rattle.std.proofs.Common.{◌≡◌, ℕ, ◌+◌, ◌-◌, ◌<◌, ◌≤◌, List, [], ◌∷◌, ◌++◌, length, get_or, take, drop, replicate, sym, refl, ap, ◌∙◌, append_assoc, add-zero, arith}
+use Rattle.std.proofs.Common.{◌≡◌, ℕ, ◌+◌, ◌-◌, ◌<◌, ◌≤◌, List, [], ◌∷◌, ◌++◌, length, get_or, take, drop, replicate, sym, refl, ap, ◌∙◌, append_assoc, arith}
 use lib.Seq.{paste}
 use Rattle.std.proofs.lemmas.List.Edits.{paste_all, paste-paste}
-use Rattle.std.proofs.lemmas.List.{take_at, take-append-drop, take_more, flat_map_more, length-append, length-take, length-drop}
+use Rattle.std.proofs.lemmas.List.{take_at, take_more, flat_map_more, length-append, length-take, length-drop}
 use Rattle.journal.specs.declared.Entry.{Entry}
 use Rattle.journal.specs.Entries.{blank}
 use Rattle.entries.specs.Entries.{entry_bytes, entries_bytes}
@@ -45,10 +45,6 @@ over_over out xs ys at n low end =
     ∙ paste-paste out at xs ys (length xs) (length ys) refl refl low
     ∙ paste_all out at (xs ++ ys) (length xs + length ys) (sym (length-append xs ys))
     ∙ ap (λ m. take at out ++ ((xs ++ ys) ++ drop (at + m) out)) (sym (length-append xs ys))
-
--- nothing written
-pub over_none : (out : List ℕ) (at : ℕ) → over out at [] ≡ out
-over_none out at = ap (λ m. take at out ++ drop m out) (add-zero at) ∙ take-append-drop at out
 
 -- the bytes of one entry more
 pub bytes_more : (es : List Entry) (k : ℕ) (e : Entry) → k < length es → get_or es k blank ≡ e → entries_bytes (take k es) ++ entry_bytes e ≡ entries_bytes (take (k + 1) es)

@@ -56,20 +56,20 @@ sent codes cabinets limit room l n accepted =
       long = cc;
     }
 
--- the fields that the checks hand on are the letter's
-pub passed : (codes : ℕ → Bool) (cabinets limit room : ℕ) (l : Letter) (f : Fields) → Ok f ≡ and_then (write_answer codes cabinets limit room l) (λ _. Ok (fields_of l)) → (write_answer codes cabinets limit room l ≡ Ok (frame_length (fields_of l).count)) × (f ≡ fields_of l)
+-- the fields that the checks hand on are the letter's, which has passed them
+pub passed : (codes : ℕ → Bool) (cabinets limit room : ℕ) (l : Letter) (f : Fields) → Ok f ≡ and_then (write_answer codes cabinets limit room l) (λ _. Ok (fields_of l)) → (write_answer codes cabinets limit room l ≡ Ok (frame_length (fields_of l).count)) × (f ≡ fields_of l) × Sent codes cabinets limit room l (frame_length (fields_of l).count)
 passed codes cabinets limit room l f h =
     let through : (n : ℕ) × (write_answer codes cabinets limit room l ≡ Ok n) × (◌≡◌ {A = Result Fields Refusal} (Ok (fields_of l)) (Ok f)) = and_then_ok _ _ f (sym h) in
-    let long = (sent codes cabinets limit room l through.0 through.1).long in
+    let answer = through.1 ∙ ap (λ m. Ok m) (sent codes cabinets limit room l through.0 through.1).long in
     let same = through.2 in
-    (through.1 ∙ ap (λ m. Ok m) long, (let e : f ≡ fields_of l = cc in e))
+    (answer, (let e : f ≡ fields_of l = cc in e), sent codes cabinets limit room l _ answer)
 
 -- the same of a history from a journal, whose owner there is
-pub history_passed : (codes : ℕ → Bool) (cabinets limit owners o room : ℕ) (l : Letter) (f : Fields) → Ok f ≡ and_then (history_answer codes cabinets limit owners o room l) (λ _. Ok (fields_of l)) → (o < owners) × (write_answer codes cabinets limit room l ≡ Ok (frame_length (fields_of l).count)) × (history_answer codes cabinets limit owners o room l ≡ Ok (frame_length (fields_of l).count)) × (f ≡ fields_of l)
+pub history_passed : (codes : ℕ → Bool) (cabinets limit owners o room : ℕ) (l : Letter) (f : Fields) → Ok f ≡ and_then (history_answer codes cabinets limit owners o room l) (λ _. Ok (fields_of l)) → (o < owners) × Sent codes cabinets limit room l (frame_length (fields_of l).count) × (history_answer codes cabinets limit owners o room l ≡ Ok (frame_length (fields_of l).count)) × (f ≡ fields_of l)
 history_passed codes cabinets limit owners o room l f h =
     let through : (n : ℕ) × (history_answer codes cabinets limit owners o room l ≡ Ok n) × (◌≡◌ {A = Result Fields Refusal} (Ok (fields_of l)) (Ok f)) = and_then_ok _ _ f (sym h) in
     let bounds : (bounds_fit cabinets limit ≡ true) × (owned owners o (write_answer codes cabinets limit room l) ≡ Ok through.0) = checked _ _ _ through.0 through.1 in
     let owner = owned_tells owners o (write_answer codes cabinets limit room l) through.0 bounds.1 in
     let long = (sent codes cabinets limit room l through.0 owner.1).long in
     let same = through.2 in
-    (owner.0, owner.1 ∙ ap (λ m. Ok m) long, through.1 ∙ ap (λ m. Ok m) long, (let e : f ≡ fields_of l = cc in e))
+    (owner.0, sent codes cabinets limit room l _ (owner.1 ∙ ap (λ m. Ok m) long), through.1 ∙ ap (λ m. Ok m) long, (let e : f ≡ fields_of l = cc in e))

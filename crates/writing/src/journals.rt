@@ -1,32 +1,36 @@
 // A history written from an owner's list in a journal.
-ghost use Rattle.std.specs.Prelude.{◌≡◌, ◌-◌, ◌<◌, ◌≤◌, ◌++◌, length, replicate, Ok};
+ghost use Rattle.std.specs.Prelude.{◌≡◌, length, Ok};
 ghost use Rattle.entries.specs.Entries.{entries_bytes};
 ghost use Rattle.entries.specs.Histories.{codes_of};
 ghost use Rattle.refusal.specs.Answers.{and_then};
-ghost use Rattle.frames.specs.Letters.{fields_of, frame_length, header_bytes};
-ghost use Rattle.writing.specs.Writing.{history_answer, history_of, over, written};
+ghost use Rattle.frames.specs.Letters.{fields_of};
+ghost use Rattle.writing.specs.Writing.{history_answer, history_of, written};
 
-use crate::buffers::{clear, header_bytes, put};
-use crate::writer::check_room;
+use crate::buffers::{Layout, Part, put};
+use crate::writer::{bare, check_room};
 use entries::{bytes_of, is_list_faultless};
 use frames::{Fields, FrameKind, check_bounds, check_count, check_fields};
 use journal::Journal;
 use orders::OrderKind;
 use refusal::Refusal;
 
-// The owner's entries, right behind a header's place.
-fn put_list<J: Journal>(journal: &J, owner: u16, out: &mut [u8]) -> Result<(), Refusal>
-    requires owner { owner < J.owners journal.now }
-    requires room { frame_length (length (J.lists journal.now owner)) ≤ length out.old }
-    ensures answer { result ≡ Ok tt }
-    ensures buffer { out.new ≡ over out.old 24 (entries_bytes (J.lists journal.now owner)) }
-{
-    let count = journal.length(owner)?;
-    for k in 0..count {
-        let entry = journal.entry(owner, k)?;
-        put(out, 24 + 16 * k as usize, &bytes_of(entry));
+// An owner's list, as what lies behind a history's header.
+#[derive(Drop)]
+pub(crate) struct Listed<'a, J> {
+    pub(crate) journal: &'a J,
+    pub(crate) owner: u16,
+}
+
+impl<J: Journal> Part for Listed<'_, J> {
+    ghost bytes = { λ s. entries_bytes (J.lists s.journal.now s.owner) };
+
+    fn put_part(&self, out: &mut [u8]) {
+        let mut position = 0;
+        while let Ok(entry) = self.journal.entry(self.owner, position) {
+            put(out, 24 + 16 * position as usize, &bytes_of(entry));
+            position += 1;
+        }
     }
-    Ok(())
 }
 
 // The fields of the history's frame, once nothing speaks against it.
@@ -46,11 +50,9 @@ fn check_history<K: OrderKind, J: Journal>(
     let count = journal.length(owner)? as usize;
     let fields = Fields {
         kind: FrameKind::History,
-        sender,
         count,
-        epoch,
         first: mark,
-        second: 0,
+        ..bare(sender, epoch)
     };
     check_room(room, &fields)?;
     check_count(limit, &fields)?;
@@ -59,26 +61,6 @@ fn check_history<K: OrderKind, J: Journal>(
         return Err(Refusal::FrameField);
     }
     Ok(fields)
-}
-
-pub(crate) fn put_history<J: Journal>(
-    fields: &Fields,
-    journal: &J,
-    owner: u16,
-    out: &mut [u8],
-) -> Result<u16, Refusal>
-    requires owner { owner < J.owners journal.now }
-    requires count { fields.now.count ≡ length (J.lists journal.now owner) }
-    requires small { fields.now.count ≤ 4000 }
-    requires room { frame_length fields.now.count ≤ length out.old }
-    ensures answer { result ≡ Ok (frame_length fields.now.count) }
-    ensures buffer { out.new ≡ (header_bytes fields.now ++ entries_bytes (J.lists journal.now owner)) ++ replicate (length out.old - frame_length fields.now.count) 0 }
-{
-    let end = 24 + 16 * fields.count;
-    put(out, 0, &header_bytes(fields));
-    put_list(journal, owner, out)?;
-    clear(out, end);
-    Ok(end as u16)
 }
 
 // An owner's whole list as a history, straight from the journal into the caller's buffer.
@@ -96,5 +78,6 @@ pub fn write_history<K: OrderKind, J: Journal>(
     ensures buffer { out.new ≡ written out.old (history_of sender epoch mark (J.lists journal.now owner)) (history_answer (codes_of K.decode) cabinets (J.limit journal.now) (J.owners journal.now) owner (length out.old) (history_of sender epoch mark (J.lists journal.now owner))) }
 {
     let fields = check_history::<K, J>(cabinets, sender, epoch, mark, journal, owner, out.len())?;
-    put_history(&fields, journal, owner, out)
+    let part = Listed { journal, owner };
+    Ok(Layout { fields, part }.put(out))
 }

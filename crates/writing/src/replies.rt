@@ -1,31 +1,17 @@
 // What a cabinet says, as a frame in the caller's buffer: nothing is asked but the list, the entry that is named, and room.
-ghost use Rattle.std.specs.Prelude.{◌≡◌, ◌-◌, ◌*◌, ◌≤◌, ◌++◌, length, take, replicate, Ok};
+ghost use Rattle.std.specs.Prelude.{◌≡◌, length};
 ghost use Rattle.cabinet.specs.declared.Reply.TheVariants.{Entry as EntryReply, History as HistoryReply};
-ghost use Rattle.frames.specs.Letters.{frame_length, header_bytes};
-ghost use Rattle.refusal.specs.Answers.{and_then};
 ghost use Rattle.writing.specs.Replies.{bare_answer, bare_frame, filled_by, reply_answer};
 ghost use Rattle.writing.specs.Speaking.{letter_said, spoken_into};
-ghost use Rattle.writing.specs.Writing.{room_answer};
 
-use crate::buffers::put_frame;
-use crate::journals::put_history;
-use crate::writer::check_room;
+use crate::buffers::Layout;
+use crate::journals::Listed;
+use crate::writer::bare;
 use cabinet::Reply;
 use entries::bytes_of;
 use frames::{Fields, FrameKind};
 use journal::Journal;
 use refusal::Refusal;
-
-// The frame of these fields and of the first entries in `bytes`, where there is room for it.
-fn put_if_room(fields: &Fields, bytes: &[u8], out: &mut [u8]) -> Result<u16, Refusal>
-    requires count { fields.now.count ≤ 4000 }
-    requires bytes { 16 * fields.now.count ≤ length bytes.now }
-    ensures answer { result ≡ and_then (room_answer (length out.old) fields.now) (λ _. Ok (frame_length fields.now.count)) }
-    ensures buffer { out.new ≡ filled_by out.old ((header_bytes fields.now ++ take (16 * fields.now.count) bytes.now) ++ replicate (length out.old - frame_length fields.now.count) 0) (and_then (room_answer (length out.old) fields.now) (λ _. Ok (frame_length fields.now.count))) }
-{
-    check_room(out.len(), fields)?;
-    Ok(put_frame(fields, bytes, out))
-}
 
 // The owner's list as a history.
 fn write_list<J: Journal>(
@@ -42,14 +28,12 @@ fn write_list<J: Journal>(
     let count = journal.length(owner)? as usize;
     let fields = Fields {
         kind: FrameKind::History,
-        sender,
         count,
-        epoch,
         first: mark as u32,
-        second: 0,
+        ..bare(sender, epoch)
     };
-    check_room(out.len(), &fields)?;
-    put_history(&fields, journal, owner, out)
+    let part = Listed { journal, owner };
+    Layout { fields, part }.put_if_room(out)
 }
 
 // One entry of the owner's list.
@@ -68,13 +52,14 @@ fn write_entry<J: Journal>(
     let entry = journal.entry(owner, position)?;
     let fields = Fields {
         kind: FrameKind::Entry,
-        sender,
         count: 1,
-        epoch,
         first: position as u32,
         second: mark as u32,
+        ..bare(sender, epoch)
     };
-    put_if_room(&fields, &bytes_of(entry), out)
+    let bytes = bytes_of(entry);
+    let part = bytes.as_slice();
+    Layout { fields, part }.put_if_room(out)
 }
 
 // A frame without entries.
@@ -91,13 +76,12 @@ fn write_bare(
 {
     let fields = Fields {
         kind,
-        sender,
-        count: 0,
-        epoch,
         first,
         second: second as u32,
+        ..bare(sender, epoch)
     };
-    put_if_room(&fields, &[], out)
+    let part: &[u8] = &[];
+    Layout { fields, part }.put_if_room(out)
 }
 
 // What a cabinet says of its own list, as a frame with zeros behind it; answers the frame's length, and 0 for nothing.

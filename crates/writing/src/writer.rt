@@ -1,27 +1,35 @@
 // The fields of a message's frame, its checks, and the frame itself.
+ghost use Rattle.entries.specs.Bytes.{Octets};
 ghost use Rattle.entries.specs.Histories.{codes_of};
 ghost use Rattle.refusal.specs.Answers.{and_then};
 ghost use Rattle.frames.specs.Letters.{fields_of, letter_answer};
-ghost use Rattle.std.specs.Prelude.{◌≡◌, length, Ok};
+ghost use Rattle.std.specs.Prelude.{◌≡◌, ◌*◌, ◌≤◌, length, take, Ok};
 ghost use Rattle.frames.specs.Reading.{letter};
 ghost use Rattle.writing.specs.Writing.{borrowed, room_answer, write_answer, written};
 
-use crate::buffers::put_frame;
+use crate::buffers::Layout;
 use frames::{Fields, Frame, FrameKind, Message, check_bounds, check_count, check_ranges};
 use orders::OrderKind;
 use refusal::Refusal;
 
+// The fields of a frame that says the least, which every other adds to.
+pub(crate) fn bare(sender: u8, epoch: u32) -> Fields
+    ensures { result ≡ record { kind = FrameKind.Promise; sender = sender; count = 0; epoch = epoch; first = 0; second = 0 } }
+{
+    Fields {
+        kind: FrameKind::Promise,
+        sender,
+        count: 0,
+        epoch,
+        first: 0,
+        second: 0,
+    }
+}
+
 fn fields_of(frame: &Frame<'_>) -> Fields
     ensures { result ≡ fields_of (letter frame.now) }
 {
-    let bare = Fields {
-        kind: FrameKind::Promise,
-        sender: frame.sender,
-        count: 0,
-        epoch: frame.epoch,
-        first: 0,
-        second: 0,
-    };
+    let bare = bare(frame.sender, frame.epoch);
     match frame.message {
         Message::Candidate { accepted, length } => Fields {
             kind: FrameKind::Candidate,
@@ -67,6 +75,15 @@ fn borrowed<'a>(message: Message<'a>) -> &'a [u8]
         | Message::Acknowledge { .. }
         | Message::Commit { .. } => &[],
     }
+}
+
+// The first entries of those bytes.
+fn front(bytes: &[u8], count: usize) -> &[u8]
+    requires { 16 * count ≤ length bytes.now }
+    ensures octets { Octets bytes.now }
+    ensures part { result.now ≡ take (16 * count) bytes.now }
+{
+    &bytes[..16 * count]
 }
 
 pub(crate) fn check_room(room: usize, fields: &Fields) -> Result<(), Refusal>
@@ -116,5 +133,6 @@ pub fn write<K: OrderKind>(
     ensures buffer { out.new ≡ written out.old (letter frame.now) (write_answer (codes_of K.decode) cabinets limit (length out.old) (letter frame.now)) }
 {
     let fields = check::<K>(cabinets, limit, frame, out.len())?;
-    Ok(put_frame(&fields, borrowed(frame.message), out))
+    let part = front(borrowed(frame.message), fields.count);
+    Ok(Layout { fields, part }.put(out))
 }

@@ -1,21 +1,12 @@
-use Rattle.std.proofs.Common.{ℕ, List, sym, arith}
-use Rattle.std.proofs.lemmas.Bool.{leb-true}
+use Rattle.std.proofs.Common.{ℕ, ◌*◌, List, sym, ap, ◌∙◌}
 use Rattle.journal.specs.declared.Entry.{Entry}
 use Rattle.entries.proofs.Journals.{length_tells}
-use Rattle.frames.proofs.Chains.{unless_ok}
+use Rattle.entries.proofs.ListTrips.{bytes_length}
 use Rattle.writing.proofs.replies.write_list.Goals as goal
 
--- a journal keeps its lists within its limit
-pub put_history-requires : goal.put_history-requires
-put_history-requires g c =
+pub invariant_of-put_if_room-clause-whole : goal.invariant_of-put_if_room-clause-whole
+invariant_of-put_if_room-clause-whole g c =
     let ls : ℕ → List Entry = g.J.Journal.lists c.args.journal.now in
     let o : ℕ = c.args.owner in
     let count = length_tells (g.J.Journal.owners c.args.journal.now) o c.in_ok-count.field-0 ls c.in_ok-count.ensures in
-    let within = g.J.Journal.laws.within c.args.journal.now o in
-    let most = g.J.Journal.laws.limit_most c.args.journal.now in
-    record {
-      owner = count.0;
-      count = count.1;
-      small = omega (arith, count.1, within, most);
-      room = leb-true _ _ (unless_ok _ _ (sym c.in_ok-check_room.ensures));
-    }
+    bytes_length (ls o) ∙ ap (λ m. 16 * m) (sym count.1)
