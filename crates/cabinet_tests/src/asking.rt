@@ -8,7 +8,9 @@ use refusal::Refusal;
 use std::process::Abort;
 
 fn body(answer: Result<Entry, Refusal>) -> Result<u64, u8> {
-    answer.map(|entry| entry.body).map_err(|refusal| refusal.number())
+    answer
+        .map(|entry| entry.body)
+        .map_err(|refusal| refusal.number())
 }
 
 fn count(answer: Result<u8, Refusal>) -> Result<u8, u8> {
@@ -71,7 +73,7 @@ fn both<K: OrderKind, J: Journal>(rt: &impl Abort, journal: &J, order: u64) {
 
 #[test]
 fn over_the_sheet(rt: HostRuntime) {
-    let mut rows = [BLANK; 20];
+    let mut rows = [Entry::BLANK; 20];
     let mut lengths = [0; 4];
     let mut journal = sheet::lay(&mut rows, &mut lengths, 4, 5);
     assert!(rt; fill(&mut journal, EITHER).is_ok());

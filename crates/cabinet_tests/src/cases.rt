@@ -8,12 +8,6 @@ pub const EITHER: u64 = 2_220_498_092_027;
 
 pub const SAMPLE: u64 = 10_995_142_047_563_783;
 
-pub const BLANK: Entry = Entry {
-    epoch: 0,
-    kind: EntryKind::Configuration,
-    body: 0,
-};
-
 // Three entries of the list are committed; the fourth changes the members, and is not.
 pub const GOOD: Cabinet = Cabinet {
     promised: 17,
@@ -93,7 +87,7 @@ pub fn fill<J: Journal>(journal: &mut J, order: u64) -> Result<(), Refusal> {
         1,
         Entry {
             body: 0b0111,
-            ..BLANK
+            ..Entry::BLANK
         },
     )?;
     journal.append(
@@ -109,7 +103,7 @@ pub fn fill<J: Journal>(journal: &mut J, order: u64) -> Result<(), Refusal> {
         Entry {
             epoch: 1,
             body: 0b1101,
-            ..BLANK
+            ..Entry::BLANK
         },
     )?;
     journal.append(
@@ -117,7 +111,7 @@ pub fn fill<J: Journal>(journal: &mut J, order: u64) -> Result<(), Refusal> {
         Entry {
             epoch: 17,
             body: 0b0011,
-            ..BLANK
+            ..Entry::BLANK
         },
     )
 }

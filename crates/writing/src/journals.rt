@@ -25,10 +25,10 @@ impl<J: Journal> Part for Listed<'_, J> {
     ghost bytes = { λ s. entries_bytes (J.lists s.journal.now s.owner) };
 
     fn put_part(&self, out: &mut [u8]) {
-        let mut position = 0;
-        while let Ok(entry) = self.journal.entry(self.owner, position) {
-            put(out, 24 + 16 * position as usize, &bytes_of(entry));
-            position += 1;
+        for position in 0..self.journal.length(self.owner).unwrap_or(0) {
+            if let Ok(entry) = self.journal.entry(self.owner, position) {
+                put(out, 24 + 16 * position as usize, &bytes_of(entry));
+            }
         }
     }
 }
