@@ -1,5 +1,6 @@
 // An owner's list becomes a history.
-ghost use Rattle.std.specs.Prelude.{◌≡◌, ℕ};
+ghost use Rattle.std.specs.Prelude.{◌≡◌};
+ghost use Rattle.journal.specs.Lists.{Relisted};
 ghost use Rattle.entries.specs.Entries.{entries_of};
 ghost use Rattle.entries.specs.Replacing.{replace_answer, replace_lists};
 
@@ -11,9 +12,7 @@ use refusal::Refusal;
 // Refused by 2 where there is no such owner, by 41 where the entries are more than the limit.
 pub fn replace<J: Journal>(journal: &mut J, owner: u16, bytes: &[u8]) -> Result<(), Refusal>
     ensures answer { result ≡ replace_answer (J.owners journal.old) (J.limit journal.old) owner (entries_of bytes.now) }
-    ensures lists { (p : ℕ) → J.lists journal.new p ≡ replace_lists (J.owners journal.old) (J.limit journal.old) (J.lists journal.old) owner (entries_of bytes.now) p }
-    ensures owners { J.owners journal.new ≡ J.owners journal.old }
-    ensures limit { J.limit journal.new ≡ J.limit journal.old }
+    ensures journal { Relisted J.owners J.limit J.lists journal.old journal.new (replace_lists (J.owners journal.old) (J.limit journal.old) (J.lists journal.old) owner (entries_of bytes.now)) }
 {
     if owner >= journal.owners() {
         return Err(Refusal::NoCabinet);

@@ -13,6 +13,12 @@ pub record Laws {S : Type 0} (owners limit : S → ℕ) (lists : S → ℕ → L
   pub within : (s : S) (p : ℕ) → length (lists s p) ≤ limit s
   pub unowned : (s : S) (p : ℕ) → owners s ≤ p → lists s p ≡ []
 
+-- a journal has these lists now, and its owners and limit still
+pub record Relisted {S : Type 0} (owners_of limit_of : S → ℕ) (lists_of : S → ℕ → List Entry) (old new : S) (left : ℕ → List Entry) : Type 0 where
+  pub lists : (p : ℕ) → lists_of new p ≡ left p
+  pub owners : owners_of new ≡ owners_of old
+  pub limit : limit_of new ≡ limit_of old
+
 -- the answer to an owner that there may not be
 abbrev pub owned : {R : Type 0} → ℕ → ℕ → Result R Refusal → Result R Refusal
 owned owners o answer = cond (nat_lt o owners) answer (Err NoCabinet)

@@ -3,7 +3,7 @@
 
 ghost use Rattle.std.specs.Prelude.{◌≡◌, ℕ, List};
 ghost use Rattle.journal.specs.Entries.{kind_number, kind_numbered, members_of};
-ghost use Rattle.journal.specs.Lists.{Laws, append_answer, append_lists, entry_answer, keep_answer, keep_lists, length_answer};
+ghost use Rattle.journal.specs.Lists.{Laws, Relisted, append_answer, append_lists, entry_answer, keep_answer, keep_lists, length_answer};
 ghost use Rattle.journal.specs.Makes.{bounds_answer};
 ghost use Rattle.journal.specs.declared.Entry.{Entry};
 
@@ -110,14 +110,10 @@ pub trait Journal {
     // Adds the entry at the list's end; refused by 41 where the list is as long as the limit.
     fn append(&mut self, owner: u16, entry: Entry) -> Result<(), Refusal>
         ensures answer { result ≡ append_answer (owners self.old) (limit self.old) (lists self.old) owner }
-        ensures lists { (p : ℕ) → lists self.new p ≡ append_lists (owners self.old) (limit self.old) (lists self.old) owner entry p }
-        ensures owners { owners self.new ≡ owners self.old }
-        ensures limit { limit self.new ≡ limit self.old };
+        ensures journal { Relisted owners limit lists self.old self.new (append_lists (owners self.old) (limit self.old) (lists self.old) owner entry) };
 
     // Leaves the first `count` entries; refused by 51 where the list is shorter.
     fn keep(&mut self, owner: u16, count: u16) -> Result<(), Refusal>
         ensures answer { result ≡ keep_answer (owners self.old) (lists self.old) owner count }
-        ensures lists { (p : ℕ) → lists self.new p ≡ keep_lists (owners self.old) (lists self.old) owner count p }
-        ensures owners { owners self.new ≡ owners self.old }
-        ensures limit { limit self.new ≡ limit self.old };
+        ensures journal { Relisted owners limit lists self.old self.new (keep_lists (owners self.old) (lists self.old) owner count) };
 }

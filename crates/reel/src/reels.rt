@@ -1,6 +1,6 @@
 // A reel for each owner, as a journal.
 ghost use Rattle.std.specs.Prelude.{◌≡◌, ℕ, ◌+◌, ◌*◌, [], length, Ok};
-ghost use Rattle.journal.specs.Lists.{owned};
+ghost use Rattle.journal.specs.Lists.{Relisted, owned};
 ghost use Rattle.journal.specs.Makes.{made_limit, made_owners, measure_answer};
 ghost use Rattle.reel.specs.Lawful.{reel_laws};
 ghost use Rattle.reel.specs.Meaning.{add_lists, limit_of, lists_of, owners_of, replays};
@@ -37,9 +37,7 @@ pub fn lay<'a>(
 // Adds a record to the owner's, rewriting them first where none is free.
 fn add(records: &mut Records<'_>, owner: u16, made: Record) -> Result<(), Refusal>
     ensures answer { result ≡ owned (shelf_owners records.old) owner (Ok tt) }
-    ensures lists { (p : ℕ) → replays records.new p ≡ add_lists (shelf_owners records.old) (shelf_limit records.old) (replays records.old) owner made p }
-    ensures owners { shelf_owners records.new ≡ shelf_owners records.old }
-    ensures limit { shelf_limit records.new ≡ shelf_limit records.old }
+    ensures journal { Relisted shelf_owners shelf_limit replays records.old records.new (add_lists (shelf_owners records.old) (shelf_limit records.old) (replays records.old) owner made) }
 {
     let row = records.row(owner)?;
     let limit = records.limit();

@@ -1,5 +1,5 @@
 ghost use Rattle.std.specs.Prelude.{◌≡◌, ℕ, ◌≤◌, [], ◌∷◌, if◌then◌else◌, Ok, nat_eq, nat_lt};
-ghost use Rattle.journal.specs.Lists.{owned};
+ghost use Rattle.journal.specs.Lists.{Relisted, owned};
 ghost use Rattle.calls.specs.Stations.{found_answer, founding_entry, new_cabinet};
 ghost use Rattle.station.specs.Calling.{Founded, parts};
 
@@ -60,9 +60,7 @@ fn check_found<J: Journal, R: QuorumRule>(
 // The owner's list becomes the entry alone.
 fn open_list<J: Journal>(journal: &mut J, owner: u16, entry: Entry) -> Result<(), Refusal>
     ensures answer { result ≡ owned (J.owners journal.old) owner (Ok tt) }
-    ensures lists { (p : ℕ) → J.lists journal.new p ≡ (if nat_lt owner (J.owners journal.old) then (if nat_eq p owner then entry ∷ [] else J.lists journal.old p) else J.lists journal.old p) }
-    ensures owners { J.owners journal.new ≡ J.owners journal.old }
-    ensures limit { J.limit journal.new ≡ J.limit journal.old }
+    ensures journal { Relisted J.owners J.limit J.lists journal.old journal.new (λ p. (if nat_lt owner (J.owners journal.old) then (if nat_eq p owner then entry ∷ [] else J.lists journal.old p) else J.lists journal.old p)) }
 {
     journal.keep(owner, 0)?;
     journal.append(owner, entry)
@@ -72,9 +70,7 @@ fn open_list<J: Journal>(journal: &mut J, owner: u16, entry: Entry) -> Result<()
 fn open_lists<J: Journal>(journal: &mut J, cabinets: u16, opening: Entry) -> Result<(), Refusal>
     requires { cabinets ≤ J.owners journal.old }
     ensures answer { result ≡ Ok tt }
-    ensures lists { (p : ℕ) → J.lists journal.new p ≡ (if nat_lt p cabinets then opening ∷ [] else J.lists journal.old p) }
-    ensures owners { J.owners journal.new ≡ J.owners journal.old }
-    ensures limit { J.limit journal.new ≡ J.limit journal.old }
+    ensures journal { Relisted J.owners J.limit J.lists journal.old journal.new (λ p. (if nat_lt p cabinets then opening ∷ [] else J.lists journal.old p)) }
 {
     for owner in 0..cabinets {
         open_list(journal, owner, opening)?;

@@ -33,9 +33,9 @@ returns-in_err-append g c =
     record {
       answer = error.1 ∙ ap (λ (r : Refusal). Err r) (error.2 ∙ told.1) ∙ sym (ap said_by full);
       «record» = sym (ap (left_by before) full);
-      lists = λ p. c.append.ensures.lists p ∙ lists_without_room owners limit ls i e count.0 told.0 p ∙ sym (ap (λ o. lists_by ls i o p) full);
-      owners = c.append.ensures.owners;
-      limit = c.append.ensures.limit;
+      lists = λ p. c.append.ensures.journal.lists p ∙ lists_without_room owners limit ls i e count.0 told.0 p ∙ sym (ap (λ o. lists_by ls i o p) full);
+      owners = c.append.ensures.journal.owners;
+      limit = c.append.ensures.journal.limit;
     }
 
 pub returns-in_err-commit : goal.returns-in_err-commit
@@ -51,10 +51,10 @@ returns-in_err-commit g c =
     let e : Entry = c.args.entry in
     let count = listed_tells owners ls i before c.in_ok-position.position (length (ls i)) c.in_ok-position.ensures in
     let told = append_told owners limit i ls (sym c.in_ok-append.was ∙ c.append.ensures.answer) in
-    let lists = λ (p : ℕ). c.append.ensures.lists p ∙ lists_with_room owners limit ls i e count.0 told.1 p in
+    let lists = λ (p : ℕ). c.append.ensures.journal.lists p ∙ lists_with_room owners limit ls i e count.0 told.1 p in
     let grown : ls' i ≡ ls i ++ e ∷ [] = lists i ∙ cond-true (eqb i i) (ls i ++ e ∷ []) (ls i) (eq-eqb i i refl) in
     let raise : c.raise.new.self ≡ raised i (length (ls i) + 1) before = c.raise.ensures ∙ ap (λ n. raised i (n + 1) before) count.2 in
-    let committed = commit_entered quorum owners limit ls i before e count.0 count.1 owners' ls' c.raise.new.self c.append.ensures.owners grown raise in
+    let committed = commit_entered quorum owners limit ls i before e count.0 count.1 owners' ls' c.raise.new.self c.append.ensures.journal.owners grown raise in
     let refused : ◌≡◌ {A = Result (Unit {0}) Refusal} (Err c.in_err-commit.field-0.0) (Ok tt) = sym c.in_err-commit.was ∙ c.commit.ensures.answer ∙ ap done committed in
     absurd (let z : ◌≡◌ {A = ℕ} 0 1 = cc in omega arith)
 
@@ -72,15 +72,15 @@ returns g c =
     let count = listed_tells owners ls i before c.in_ok-position.position (length (ls i)) c.in_ok-position.ensures in
     let told = append_told owners limit i ls (sym c.in_ok-append.was ∙ c.append.ensures.answer) in
     let room = with_room quorum owners limit ls i before e count.0 count.1 told.1 in
-    let lists = λ (p : ℕ). c.append.ensures.lists p ∙ lists_with_room owners limit ls i e count.0 told.1 p in
+    let lists = λ (p : ℕ). c.append.ensures.journal.lists p ∙ lists_with_room owners limit ls i e count.0 told.1 p in
     let grown : ls' i ≡ ls i ++ e ∷ [] = lists i ∙ cond-true (eqb i i) (ls i ++ e ∷ []) (ls i) (eq-eqb i i refl) in
     let raise : c.raise.new.self ≡ raised i (length (ls i) + 1) before = c.raise.ensures ∙ ap (λ n. raised i (n + 1) before) count.2 in
-    let committed = commit_entered quorum owners limit ls i before e count.0 count.1 owners' ls' c.raise.new.self c.append.ensures.owners grown raise in
+    let committed = commit_entered quorum owners limit ls i before e count.0 count.1 owners' ls' c.raise.new.self c.append.ensures.journal.owners grown raise in
     let left : c.commit.new.cabinet ≡ entered quorum i (ls i) before e = c.commit.ensures.«record» ∙ ap (after c.raise.new.self) committed in
     record {
       answer = ap₂ (λ n (x : Cabinet). Ok (Entered n x.mark)) count.2 left ∙ sym (ap said_by room);
       «record» = left ∙ sym (ap (left_by before) room);
       lists = λ p. lists p ∙ sym (ap (λ o. lists_by ls i o p) room);
-      owners = c.append.ensures.owners;
-      limit = c.append.ensures.limit;
+      owners = c.append.ensures.journal.owners;
+      limit = c.append.ensures.journal.limit;
     }

@@ -12,9 +12,9 @@ loop-owner-preserved g c =
     let owners : ℕ = g.J.Journal.owners c.loop-owner.journal in
     let there : c.loop-owner.owner < owners = omega (arith, c.requires, c.loop-owner.invariant.2, c.loop-owner-test.true) in (
       omega (arith, c.loop-owner-test.true),
-      λ p. c.open_list.ensures.lists p ∙ one_more (g.J.Journal.lists c.args.journal.now) now c.loop-owner.owner owners c.args.opening there c.loop-owner.invariant.1 p,
-      c.open_list.ensures.owners ∙ c.loop-owner.invariant.2,
-      c.open_list.ensures.limit ∙ c.loop-owner.invariant.3,
+      λ p. c.open_list.ensures.journal.lists p ∙ one_more (g.J.Journal.lists c.args.journal.now) now c.loop-owner.owner owners c.args.opening there c.loop-owner.invariant.1 p,
+      c.open_list.ensures.journal.owners ∙ c.loop-owner.invariant.2,
+      c.open_list.ensures.journal.limit ∙ c.loop-owner.invariant.3,
     )
 
 -- every owner below the number of owners has a list
