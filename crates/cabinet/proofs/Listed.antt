@@ -31,9 +31,7 @@ module _ {S : Type 0} (owners_of limit_of : S → ℕ) (lists_of : S → ℕ →
       record {
         answer = said ∙ sym (ap said_by refused);
         «record» = sym (ap (left_by c) refused);
-        lists = λ p. sym (ap (λ (x : Outcome). lists_by (lists_of journal) i x p) refused);
-        owners = refl;
-        limit = refl;
+        journal = record { lists = λ p. sym (ap (λ (x : Outcome). lists_by (lists_of journal) i x p) refused); owners = refl; limit = refl };
       }
 
   -- and so does every step of a cabinet whose list is not there

@@ -3,7 +3,7 @@ use Rattle.std.specs.Prelude.{◌≡◌, ℕ, cond, List, length, Ok, Err, Resul
 use Rattle.refusal.specs.declared.Refusal.{Refusal}
 use Rattle.refusal.specs.declared.Refusal.TheVariants.{NoPosition}
 use Rattle.journal.specs.declared.Entry.{Entry}
-use Rattle.journal.specs.Lists.{owned}
+use Rattle.journal.specs.Lists.{Relisted, owned}
 use Rattle.cabinet.specs.declared.Cabinet.{Cabinet}
 use Rattle.cabinet.specs.declared.Reply.{Reply}
 
@@ -45,10 +45,8 @@ pub record Stepped {S : Type 0} (owners_of : S → ℕ) (lists_of : S → ℕ �
   pub answer : said ≡ said_by (listed (owners_of journal) (lists_of journal) i before o)
   pub «record» : after ≡ left_by before (listed (owners_of journal) (lists_of journal) i before o)
 
--- cabinet i has taken a step over a journal that it may have changed: the answer, the record and the lists that it left
+-- cabinet i has taken a step over a journal that it may have changed: the answer, and the record and the lists that it left
 pub record SteppedOver {S : Type 0} (owners_of limit_of : S → ℕ) (lists_of : S → ℕ → List Entry) (old new : S) (i : ℕ) (before after : Cabinet) (said : Result Reply Refusal) (o : Outcome) : Type 0 where
   pub answer : said ≡ said_by (listed (owners_of old) (lists_of old) i before o)
   pub «record» : after ≡ left_by before (listed (owners_of old) (lists_of old) i before o)
-  pub lists : (p : ℕ) → lists_of new p ≡ lists_by (lists_of old) i (listed (owners_of old) (lists_of old) i before o) p
-  pub owners : owners_of new ≡ owners_of old
-  pub limit : limit_of new ≡ limit_of old
+  pub journal : Relisted owners_of limit_of lists_of old new (lists_by (lists_of old) i (listed (owners_of old) (lists_of old) i before o))

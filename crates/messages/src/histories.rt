@@ -107,8 +107,7 @@ pub fn take_history<J: Journal>(
     if mark as usize > count {
         return Err(Refusal::FrameField);
     }
-    let replaces = (cabinet.accepted < epoch) | ((length as usize) < count);
-    if replaces {
+    if cabinet.accepted < epoch || (length as usize) < count {
         return adopt(cabinet, number, journal, epoch, mark, entries);
     }
     accept(cabinet, epoch, mark as u16);

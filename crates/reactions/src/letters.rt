@@ -41,9 +41,9 @@ fn is_expected(cabinet: &Cabinet, frame: &Frame<'_>) -> bool
     let accepted = cabinet.accepted == frame.epoch;
     match frame.message {
         Message::Candidate { .. } | Message::History { .. } => true,
-        Message::Promise => (cabinet.role == STANDS) & promised,
-        Message::Acknowledge { .. } => (cabinet.role == LEADS) & promised,
-        Message::Entry { .. } | Message::Commit { .. } => promised & accepted,
+        Message::Promise => cabinet.role == STANDS && promised,
+        Message::Acknowledge { .. } => cabinet.role == LEADS && promised,
+        Message::Entry { .. } | Message::Commit { .. } => promised && accepted,
     }
 }
 

@@ -5,6 +5,7 @@ use Rattle.refusal.specs.declared.Refusal.TheVariants.{OutOfBounds, NoCabinet, N
 use Rattle.refusal.specs.Answers.{and_then, unless}
 use Rattle.orders.specs.Kinds.{between as in_range}
 use Rattle.journal.specs.declared.Entry.{Entry}
+use Rattle.journal.specs.Lists.{Relisted}
 use Rattle.entries.specs.Histories.{may_hold}
 use Rattle.frames.specs.Letters.{frame_length}
 use Rattle.cabinet.specs.declared.Cabinet.{Cabinet}
@@ -43,7 +44,5 @@ receive_step codes quorum cabinets owners limit i l c bytes room =
 pub record Received {S : Type 0} (owners_of limit_of : S → ℕ) (lists_of : S → ℕ → List Entry) (old new : S) (i : ℕ) (before after : Cabinet) (out filled : List ℕ) (said : Result (ℕ × ℕ) Refusal) (o : Outcome) : Type 0 where
   pub answer : said ≡ answer_by i o
   pub «record» : after ≡ left_by before o
-  pub lists : (p : ℕ) → lists_of new p ≡ lists_by (lists_of old) i o p
-  pub owners : owners_of new ≡ owners_of old
-  pub limit : limit_of new ≡ limit_of old
+  pub journal : Relisted owners_of limit_of lists_of old new (lists_by (lists_of old) i o)
   pub buffer : filled ≡ buffer_by out i o

@@ -16,13 +16,11 @@ pub(crate) fn is_in_bounds<J: Journal>(table: &[Cabinet], journal: &J, trays: &[
 {
     let limit = journal.limit();
     let size = tray_length(limit);
-    let cabinets = table.len();
-    let count = trays.len() / size;
-    let owned = cabinets <= journal.owners() as usize;
-    let sized = (1 <= cabinets) & (cabinets <= 16);
-    let limited = (2 <= limit) & (limit <= 4000);
-    let whole = trays.len() % size == 0;
-    sized & owned & limited & whole & ((1 <= count) & (count <= 64))
+    (1..=16).contains(&table.len())
+        && table.len() <= journal.owners() as usize
+        && (2..=4000).contains(&limit)
+        && trays.len() % size == 0
+        && (1..=64).contains(&(trays.len() / size))
 }
 
 // 1 for a part outside its bounds, 2 for a cabinet that is not in the table.

@@ -49,8 +49,7 @@ fn check_found<J: Journal, R: QuorumRule>(
     if !is_in_bounds(table, journal, trays) {
         return Err(Refusal::OutOfBounds);
     }
-    let known = names_members(table.len() as u8, founding(members));
-    if known & rule.is_quorum(members, members) {
+    if names_members(table.len() as u8, founding(members)) && rule.is_quorum(members, members) {
         Ok(())
     } else {
         Err(Refusal::BadFounders)

@@ -33,9 +33,7 @@ returns-in_err-append g c =
     record {
       answer = error.1 ∙ ap (λ (r : Refusal). Err r) (error.2 ∙ told.1) ∙ sym (ap said_by full);
       «record» = sym (ap (left_by before) full);
-      lists = λ p. c.append.ensures.journal.lists p ∙ lists_without_room owners limit ls i e count.0 told.0 p ∙ sym (ap (λ o. lists_by ls i o p) full);
-      owners = c.append.ensures.journal.owners;
-      limit = c.append.ensures.journal.limit;
+      journal = record { lists = λ p. c.append.ensures.journal.lists p ∙ lists_without_room owners limit ls i e count.0 told.0 p ∙ sym (ap (λ o. lists_by ls i o p) full); owners = c.append.ensures.journal.owners; limit = c.append.ensures.journal.limit };
     }
 
 pub returns-in_err-commit : goal.returns-in_err-commit
@@ -80,7 +78,5 @@ returns g c =
     record {
       answer = ap₂ (λ n (x : Cabinet). Ok (Entered n x.mark)) count.2 left ∙ sym (ap said_by room);
       «record» = left ∙ sym (ap (left_by before) room);
-      lists = λ p. lists p ∙ sym (ap (λ o. lists_by ls i o p) room);
-      owners = c.append.ensures.journal.owners;
-      limit = c.append.ensures.journal.limit;
+      journal = record { lists = λ p. lists p ∙ sym (ap (λ o. lists_by ls i o p) room); owners = c.append.ensures.journal.owners; limit = c.append.ensures.journal.limit };
     }

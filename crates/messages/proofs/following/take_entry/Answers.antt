@@ -34,9 +34,7 @@ returns-in_err-append g c =
     record {
       answer = error.1 ∙ ap (λ (r : Refusal). Err r) (error.2 ∙ told.1) ∙ sym (ap said_by full);
       «record» = sym (ap (left_by before) full);
-      lists = λ p. c.append.ensures.journal.lists p ∙ lists_without_room owners limit ls i e count.0 told.0 p ∙ sym (ap (λ o. lists_by ls i o p) full);
-      owners = c.append.ensures.journal.owners;
-      limit = c.append.ensures.journal.limit;
+      journal = record { lists = λ p. c.append.ensures.journal.lists p ∙ lists_without_room owners limit ls i e count.0 told.0 p ∙ sym (ap (λ o. lists_by ls i o p) full); owners = c.append.ensures.journal.owners; limit = c.append.ensures.journal.limit };
     }
 
 pub returns : goal.returns
@@ -56,7 +54,5 @@ returns g c =
     record {
       answer = ap (λ n. Ok (Acknowledge n)) longer ∙ sym (ap said_by taken);
       «record» = c.take_mark-2.ensures ∙ ap (λ n. told_mark n c.args.mark before) longer ∙ sym (ap (left_by before) taken);
-      lists = λ p. c.append.ensures.journal.lists p ∙ lists_with_room owners limit ls i e count.0 told.1 p ∙ sym (ap (λ o. lists_by ls i o p) taken);
-      owners = c.append.ensures.journal.owners;
-      limit = c.append.ensures.journal.limit;
+      journal = record { lists = λ p. c.append.ensures.journal.lists p ∙ lists_with_room owners limit ls i e count.0 told.1 p ∙ sym (ap (λ o. lists_by ls i o p) taken); owners = c.append.ensures.journal.owners; limit = c.append.ensures.journal.limit };
     }

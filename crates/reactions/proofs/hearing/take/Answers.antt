@@ -22,9 +22,7 @@ returns-in-Candidate g c =
     record {
       answer = c.take_candidate.ensures.answer ∙ ap said_by whole;
       «record» = c.take_candidate.ensures.«record» ∙ ap (left_by c.args.cabinet.now) whole;
-      lists = read_only (g.J.Journal.owners c.args.journal.now) (g.J.Journal.lists c.args.journal.now) c.args.number c.args.cabinet.now (candidate_step (g.J.Journal.lists c.args.journal.now c.args.number) c.args.cabinet.now c.args.frame.now.epoch c.in-Candidate.accepted c.in-Candidate.length) _ meant (unless_keeps (g.J.Journal.lists c.args.journal.now c.args.number) (not (later (c.args.cabinet.now.accepted, length (g.J.Journal.lists c.args.journal.now c.args.number)) (c.in-Candidate.accepted, c.in-Candidate.length))) VoterAhead _ refl);
-      owners = refl;
-      limit = refl;
+      journal = record { lists = read_only (g.J.Journal.owners c.args.journal.now) (g.J.Journal.lists c.args.journal.now) c.args.number c.args.cabinet.now (candidate_step (g.J.Journal.lists c.args.journal.now c.args.number) c.args.cabinet.now c.args.frame.now.epoch c.in-Candidate.accepted c.in-Candidate.length) _ meant (unless_keeps (g.J.Journal.lists c.args.journal.now c.args.number) (not (later (c.args.cabinet.now.accepted, length (g.J.Journal.lists c.args.journal.now c.args.number)) (c.in-Candidate.accepted, c.in-Candidate.length))) VoterAhead _ refl); owners = refl; limit = refl };
     }
 
 pub returns-in-Promise : goal.returns-in-Promise
@@ -35,9 +33,7 @@ returns-in-Promise g c =
     record {
       answer = c.take_promise.ensures.answer ∙ ap said_by whole;
       «record» = c.take_promise.ensures.«record» ∙ ap (left_by c.args.cabinet.now) whole;
-      lists = read_only (g.J.Journal.owners c.args.journal.now) (g.J.Journal.lists c.args.journal.now) c.args.number c.args.cabinet.now (promise_step (g.R.QuorumRule.quorum c.args.rule.now) c.args.number (g.J.Journal.lists c.args.journal.now c.args.number) c.args.cabinet.now c.args.frame.now.sender) _ meant (cond_keeps (g.J.Journal.lists c.args.journal.now c.args.number) (elected (g.R.QuorumRule.quorum c.args.rule.now) (g.J.Journal.lists c.args.journal.now c.args.number) (gathers c.args.frame.now.sender c.args.cabinet.now)) _ _ refl refl);
-      owners = refl;
-      limit = refl;
+      journal = record { lists = read_only (g.J.Journal.owners c.args.journal.now) (g.J.Journal.lists c.args.journal.now) c.args.number c.args.cabinet.now (promise_step (g.R.QuorumRule.quorum c.args.rule.now) c.args.number (g.J.Journal.lists c.args.journal.now c.args.number) c.args.cabinet.now c.args.frame.now.sender) _ meant (cond_keeps (g.J.Journal.lists c.args.journal.now c.args.number) (elected (g.R.QuorumRule.quorum c.args.rule.now) (g.J.Journal.lists c.args.journal.now c.args.number) (gathers c.args.frame.now.sender c.args.cabinet.now)) _ _ refl refl); owners = refl; limit = refl };
     }
 
 pub returns-in-Entry : goal.returns-in-Entry
@@ -49,9 +45,7 @@ returns-in-Entry g c =
     record {
       answer = c.take_entry.ensures.answer ∙ ap said_by whole;
       «record» = c.take_entry.ensures.«record» ∙ ap (left_by c.args.cabinet.now) whole;
-      lists = λ p. c.take_entry.ensures.lists p ∙ ap (λ (x : Outcome). lists_by (g.J.Journal.lists c.args.journal.now) c.args.number x p) whole;
-      owners = c.take_entry.ensures.owners;
-      limit = c.take_entry.ensures.limit;
+      journal = record { lists = λ p. c.take_entry.ensures.journal.lists p ∙ ap (λ (x : Outcome). lists_by (g.J.Journal.lists c.args.journal.now) c.args.number x p) whole; owners = c.take_entry.ensures.journal.owners; limit = c.take_entry.ensures.journal.limit };
     }
 
 pub returns-in-Acknowledge : goal.returns-in-Acknowledge
@@ -62,9 +56,7 @@ returns-in-Acknowledge g c =
     record {
       answer = c.take_acknowledge.ensures.answer ∙ ap said_by whole;
       «record» = c.take_acknowledge.ensures.«record» ∙ ap (left_by c.args.cabinet.now) whole;
-      lists = read_only (g.J.Journal.owners c.args.journal.now) (g.J.Journal.lists c.args.journal.now) c.args.number c.args.cabinet.now (acknowledge_step (g.R.QuorumRule.quorum c.args.rule.now) c.args.number (g.J.Journal.lists c.args.journal.now c.args.number) c.args.cabinet.now c.args.frame.now.sender c.in-Acknowledge.length) _ meant (unless_keeps (g.J.Journal.lists c.args.journal.now c.args.number) (leb c.in-Acknowledge.length (length (g.J.Journal.lists c.args.journal.now c.args.number))) TooMuchAcknowledged _ refl);
-      owners = refl;
-      limit = refl;
+      journal = record { lists = read_only (g.J.Journal.owners c.args.journal.now) (g.J.Journal.lists c.args.journal.now) c.args.number c.args.cabinet.now (acknowledge_step (g.R.QuorumRule.quorum c.args.rule.now) c.args.number (g.J.Journal.lists c.args.journal.now c.args.number) c.args.cabinet.now c.args.frame.now.sender c.in-Acknowledge.length) _ meant (unless_keeps (g.J.Journal.lists c.args.journal.now c.args.number) (leb c.in-Acknowledge.length (length (g.J.Journal.lists c.args.journal.now c.args.number))) TooMuchAcknowledged _ refl); owners = refl; limit = refl };
     }
 
 pub returns-in-Commit : goal.returns-in-Commit
@@ -75,7 +67,5 @@ returns-in-Commit g c =
     record {
       answer = c.take_commit.ensures.answer ∙ ap said_by whole;
       «record» = c.take_commit.ensures.«record» ∙ ap (left_by c.args.cabinet.now) whole;
-      lists = read_only (g.J.Journal.owners c.args.journal.now) (g.J.Journal.lists c.args.journal.now) c.args.number c.args.cabinet.now (commit_step (g.J.Journal.lists c.args.journal.now c.args.number) c.args.cabinet.now c.in-Commit.mark) _ meant (refl);
-      owners = refl;
-      limit = refl;
+      journal = record { lists = read_only (g.J.Journal.owners c.args.journal.now) (g.J.Journal.lists c.args.journal.now) c.args.number c.args.cabinet.now (commit_step (g.J.Journal.lists c.args.journal.now c.args.number) c.args.cabinet.now c.in-Commit.mark) _ meant (refl); owners = refl; limit = refl };
     }

@@ -33,9 +33,7 @@ returns-in_err-check_ready g c =
     record {
       answer = error.1 ∙ ap (λ (r : Refusal). Err r) error.2 ∙ sym (ap (answer_by i) refused);
       «record» = sym (ap (left_by before) refused);
-      lists = λ p. sym (ap (λ (o : Outcome). lists_by ls i o p) refused);
-      owners = refl;
-      limit = refl;
+      journal = record { lists = λ p. sym (ap (λ (o : Outcome). lists_by ls i o p) refused); owners = refl; limit = refl };
       buffer = sym (ap (buffer_by out i) refused);
     }
 
@@ -61,9 +59,7 @@ returns-in_err-reply g c =
     record {
       answer = error.1 ∙ ap (λ (r : Refusal). Err r) error.2 ∙ sym (ap (answer_by i) refused);
       «record» = c.hear.ensures.«record» ∙ sym (ap (left_by before) whole);
-      lists = λ p. c.hear.ensures.lists p ∙ sym (ap (λ (o : Outcome). lists_by ls i o p) whole);
-      owners = c.hear.ensures.owners;
-      limit = c.hear.ensures.limit;
+      journal = record { lists = λ p. c.hear.ensures.journal.lists p ∙ sym (ap (λ (o : Outcome). lists_by ls i o p) whole); owners = c.hear.ensures.journal.owners; limit = c.hear.ensures.journal.limit };
       buffer = sym (ap (buffer_by out i) refused);
     }
 
@@ -87,10 +83,10 @@ returns-in_err-length g c =
     let owner = place_tells cabinets owners i placed in
     let names = listed_names owners ls i before (hear_step codes quorum cabinets limit i (ls i) before bytes) (hear_names quorum limit i (ls i) before codes cabinets bytes) in
     let least : 1 ≤ limit = omega (arith, g.J.Journal.laws.limit_least c.args.journal.now) in
-    let short : length (g.J.Journal.lists c.hear.new.journal i) ≤ limit = omega (arith, g.J.Journal.laws.within c.hear.new.journal i, c.hear.ensures.limit) in
+    let short : length (g.J.Journal.lists c.hear.new.journal i) ≤ limit = omega (arith, g.J.Journal.laws.within c.hear.new.journal i, c.hear.ensures.journal.limit) in
     let said =
-    spoken (g.J.Journal.owners c.hear.new.journal) limit i ls (g.J.Journal.lists c.hear.new.journal) before c.hear.new.cabinet c.in_ok-reply.reply out (omega (arith, owner, c.hear.ensures.owners)) least short roomy
-    heard (sym c.in_ok-reply.was ∙ c.hear.ensures.answer) c.hear.ensures.«record» (c.hear.ensures.lists i) names in
+    spoken (g.J.Journal.owners c.hear.new.journal) limit i ls (g.J.Journal.lists c.hear.new.journal) before c.hear.new.cabinet c.in_ok-reply.reply out (omega (arith, owner, c.hear.ensures.journal.owners)) least short roomy
+    heard (sym c.in_ok-reply.was ∙ c.hear.ensures.answer) c.hear.ensures.«record» (c.hear.ensures.journal.lists i) names in
     let both : ◌≡◌ {A = Result ℕ Refusal} (Err c.in_err-length.field-0.0) (Ok _) = sym c.in_err-length.was ∙ c.write_reply.ensures.answer ∙ said.0 in
     absurd (let z : ◌≡◌ {A = ℕ} 0 1 = cc in omega arith)
 
@@ -114,16 +110,14 @@ returns g c =
     let owner = place_tells cabinets owners i placed in
     let names = listed_names owners ls i before (hear_step codes quorum cabinets limit i (ls i) before bytes) (hear_names quorum limit i (ls i) before codes cabinets bytes) in
     let least : 1 ≤ limit = omega (arith, g.J.Journal.laws.limit_least c.args.journal.now) in
-    let short : length (g.J.Journal.lists c.hear.new.journal i) ≤ limit = omega (arith, g.J.Journal.laws.within c.hear.new.journal i, c.hear.ensures.limit) in
+    let short : length (g.J.Journal.lists c.hear.new.journal i) ≤ limit = omega (arith, g.J.Journal.laws.within c.hear.new.journal i, c.hear.ensures.journal.limit) in
     let said =
-    spoken (g.J.Journal.owners c.hear.new.journal) limit i ls (g.J.Journal.lists c.hear.new.journal) before c.hear.new.cabinet c.in_ok-reply.reply out (omega (arith, owner, c.hear.ensures.owners)) least short roomy
-    heard (sym c.in_ok-reply.was ∙ c.hear.ensures.answer) c.hear.ensures.«record» (c.hear.ensures.lists i) names in
+    spoken (g.J.Journal.owners c.hear.new.journal) limit i ls (g.J.Journal.lists c.hear.new.journal) before c.hear.new.cabinet c.in_ok-reply.reply out (omega (arith, owner, c.hear.ensures.journal.owners)) least short roomy
+    heard (sym c.in_ok-reply.was ∙ c.hear.ensures.answer) c.hear.ensures.«record» (c.hear.ensures.journal.lists i) names in
     let length-said : ◌≡◌ {A = Result ℕ Refusal} (Ok c.in_ok-length.length) (Ok _) = sym c.in_ok-length.was ∙ c.write_reply.ensures.answer ∙ said.0 in
     record {
       answer = ap (λ n. Ok (0, n)) (ok_same length-said) ∙ sym said.1 ∙ sym (ap (answer_by i) whole);
       «record» = c.hear.ensures.«record» ∙ sym (ap (left_by before) whole);
-      lists = λ p. c.hear.ensures.lists p ∙ sym (ap (λ (o : Outcome). lists_by ls i o p) whole);
-      owners = c.hear.ensures.owners;
-      limit = c.hear.ensures.limit;
+      journal = record { lists = λ p. c.hear.ensures.journal.lists p ∙ sym (ap (λ (o : Outcome). lists_by ls i o p) whole); owners = c.hear.ensures.journal.owners; limit = c.hear.ensures.journal.limit };
       buffer = c.write_reply.ensures.buffer ∙ ap (filled_by out (spoken_into out (letter_said i c.hear.new.cabinet.promised (g.J.Journal.lists c.hear.new.journal i) c.in_ok-reply.reply))) said.0 ∙ sym said.2 ∙ sym (ap (buffer_by out i) whole);
     }

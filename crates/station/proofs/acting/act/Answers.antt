@@ -22,7 +22,5 @@ returns-in-Refresh g c =
     record {
       answer = c.refresh.ensures ∙ ap said_by whole;
       «record» = refresh_leaves owners ls i before ∙ ap (left_by before) whole;
-      lists = read_only owners ls i before (refresh_step (ls i) before) _ meant (unless_keeps (ls i) (eqb before.role 2) NotLeading _ refl);
-      owners = refl;
-      limit = refl;
+      journal = record { lists = read_only owners ls i before (refresh_step (ls i) before) _ meant (unless_keeps (ls i) (eqb before.role 2) NotLeading _ refl); owners = refl; limit = refl };
     }

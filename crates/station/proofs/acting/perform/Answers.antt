@@ -34,7 +34,7 @@ returns-in_err-reply g c =
     let error = err_from_is_err_and c.from_residual-in_err-reply.result c.from_residual-in_err-reply.ensures.1 in
     record {
       answer = error.1 ∙ ap (λ (r : Refusal). Err r) error.2 ∙ done.answer;
-      station = station_left s i k _ _ _ _ _ _ done.table c.act.ensures.owners c.act.ensures.limit (λ p. c.act.ensures.lists p ∙ done.lists p) (done.trays);
+      station = station_left s i k _ _ _ _ _ _ done.table c.act.ensures.journal.owners c.act.ensures.journal.limit (λ p. c.act.ensures.journal.lists p ∙ done.lists p) (done.trays);
     }
 
 pub say-requires : goal.say-requires
@@ -46,7 +46,7 @@ say-requires g c =
     let i : ℕ = c.args.number in
     let k : ℕ = c.args.tray in
     let tells = called_tells codes s i k (sym c.in_ok-check_call.was ∙ c.check_call.ensures) in
-    subst (λ n. k * tray_length n + tray_length n ≤ length s.trays) (sym c.act.ensures.limit) tells.room
+    subst (λ n. k * tray_length n + tray_length n ≤ length s.trays) (sym c.act.ensures.journal.limit) tells.room
 
 pub returns : goal.returns
 returns g c =
@@ -63,12 +63,12 @@ returns g c =
     let whole = does_step codes s i k step called-ok in
     let o : Outcome = listed s.owners s.lists i (cabinet_at s i) step in
     let ls' : ℕ → List Entry = g.J.Journal.lists c.act.new.journal in
-    let short : length (ls' i) ≤ s.limit = omega (arith, g.J.Journal.laws.within c.act.new.journal i, c.act.ensures.limit) in
+    let short : length (ls' i) ≤ s.limit = omega (arith, g.J.Journal.laws.within c.act.new.journal i, c.act.ensures.journal.limit) in
     let names = listed_names s.owners s.lists i (cabinet_at s i) step (act_names quorum s.limit i (s.lists i) (cabinet_at s i) (kind_of g.K.OrderKind.proper g.K.OrderKind.encode g.K.OrderKind.decode) (cabinets s) c.args.step.now) in
     let done =
-    finished s i k c.in_ok-reply.reply c.act.new.cabinet (g.J.Journal.owners c.act.new.journal) ls' (omega (arith, tells.is_named.within, tells.is_named.owned, c.act.ensures.owners)) (omega (arith, tells.is_named.limited)) short tells.room
-    (g.J.Journal.limit c.act.new.journal) o _ c.act.ensures.limit whole (sym c.in_ok-reply.was ∙ c.act.ensures.answer) c.act.ensures.«record» (c.act.ensures.lists i) names in
+    finished s i k c.in_ok-reply.reply c.act.new.cabinet (g.J.Journal.owners c.act.new.journal) ls' (omega (arith, tells.is_named.within, tells.is_named.owned, c.act.ensures.journal.owners)) (omega (arith, tells.is_named.limited)) short tells.room
+    (g.J.Journal.limit c.act.new.journal) o _ c.act.ensures.journal.limit whole (sym c.in_ok-reply.was ∙ c.act.ensures.answer) c.act.ensures.«record» (c.act.ensures.journal.lists i) names in
     record {
       answer = c.say.ensures.answer ∙ done.answer;
-      station = station_left s i k _ _ _ _ _ _ done.table c.act.ensures.owners c.act.ensures.limit (λ p. c.act.ensures.lists p ∙ done.lists p) (c.say.ensures.trays ∙ done.trays);
+      station = station_left s i k _ _ _ _ _ _ done.table c.act.ensures.journal.owners c.act.ensures.journal.limit (λ p. c.act.ensures.journal.lists p ∙ done.lists p) (c.say.ensures.trays ∙ done.trays);
     }

@@ -18,9 +18,7 @@ returns-in_err-keep g c =
     let error = err_from_is_err_and c.from_residual.result c.from_residual.ensures.1 in
     record {
       answer = error.1 ∙ ap (λ (r : Refusal). Err r) (error.2 ∙ told.1) ∙ sym (cond-false (ltb o owners) (Ok tt) (Err NoCabinet) none);
-      lists = λ p. c.keep.ensures.journal.lists p ∙ keep_past owners o ls told.0 p ∙ sym (cond-false (ltb o owners) (cond (eqb p o) (c.args.entry ∷ []) (ls p)) (ls p) none);
-      owners = c.keep.ensures.journal.owners;
-      limit = c.keep.ensures.journal.limit;
+      journal = record { lists = λ p. c.keep.ensures.journal.lists p ∙ keep_past owners o ls told.0 p ∙ sym (cond-false (ltb o owners) (cond (eqb p o) (c.args.entry ∷ []) (ls p)) (ls p) none); owners = c.keep.ensures.journal.owners; limit = c.keep.ensures.journal.limit };
     }
 
 pub returns : goal.returns
@@ -35,7 +33,5 @@ returns g c =
     let some = lt-ltb o owners there in
     record {
       answer = c.append.ensures.answer ∙ ap (λ n. append_answer n limit kept o) c.keep.ensures.journal.owners ∙ done.0 ∙ sym (cond-true (ltb o owners) (Ok tt) (Err NoCabinet) some);
-      lists = λ p. c.append.ensures.journal.lists p ∙ ap (λ n. append_lists n limit kept o c.args.entry p) c.keep.ensures.journal.owners ∙ done.1 p ∙ sym (cond-true (ltb o owners) (cond (eqb p o) (c.args.entry ∷ []) (ls p)) (ls p) some);
-      owners = c.append.ensures.journal.owners ∙ c.keep.ensures.journal.owners;
-      limit = c.append.ensures.journal.limit ∙ c.keep.ensures.journal.limit;
+      journal = record { lists = λ p. c.append.ensures.journal.lists p ∙ ap (λ n. append_lists n limit kept o c.args.entry p) c.keep.ensures.journal.owners ∙ done.1 p ∙ sym (cond-true (ltb o owners) (cond (eqb p o) (c.args.entry ∷ []) (ls p)) (ls p) some); owners = c.append.ensures.journal.owners ∙ c.keep.ensures.journal.owners; limit = c.append.ensures.journal.limit ∙ c.keep.ensures.journal.limit };
     }

@@ -28,7 +28,5 @@ pub returns : goal.returns
 returns g c =
     record {
       answer = refl;
-      lists = λ p. c.loop-owner.invariant.1 p ∙ ap (λ n. cond (ltb p n) (c.args.opening ∷ []) (g.J.Journal.lists c.args.journal.now p)) (let z : c.loop-owner.owner ≡ c.args.cabinets = omega (arith, c.loop-owner.invariant.0, c.loop-owner-test.false) in z);
-      owners = c.loop-owner.invariant.2;
-      limit = c.loop-owner.invariant.3;
+      journal = record { lists = λ p. c.loop-owner.invariant.1 p ∙ ap (λ n. cond (ltb p n) (c.args.opening ∷ []) (g.J.Journal.lists c.args.journal.now p)) (let z : c.loop-owner.owner ≡ c.args.cabinets = omega (arith, c.loop-owner.invariant.0, c.loop-owner-test.false) in z); owners = c.loop-owner.invariant.2; limit = c.loop-owner.invariant.3 };
     }

@@ -40,12 +40,12 @@ returns-in_err-reply g c =
     let o : Outcome = by (tray_length s.limit) in
     let answer = c.hear.ensures.answer ∙ ap (λ n. said_by (by n)) size in
     let left = c.hear.ensures.«record» ∙ ap (λ n. left_by (cabinet_at s i) (by n)) size in
-    let lists : (p : ℕ) → g.J.Journal.lists c.hear.new.journal p ≡ lists_by s.lists i o p = λ p. c.hear.ensures.lists p ∙ ap (λ n. lists_by s.lists i (by n) p) size in
+    let lists : (p : ℕ) → g.J.Journal.lists c.hear.new.journal p ≡ lists_by s.lists i o p = λ p. c.hear.ensures.journal.lists p ∙ ap (λ n. lists_by s.lists i (by n) p) size in
     let done = step_refused s i k c.hear.new.cabinet o _ c.in_err-reply.field-0.0 whole (sym c.in_err-reply.was ∙ answer) left in
     let error = err_from_is_err_and c.from_residual-in_err-reply.result c.from_residual-in_err-reply.ensures.1 in
     record {
       answer = error.1 ∙ ap (λ (r : Refusal). Err r) error.2 ∙ done.answer;
-      station = station_left s i k _ _ _ _ _ _ done.table c.hear.ensures.owners c.hear.ensures.limit (λ p. lists p ∙ done.lists p) (done.trays);
+      station = station_left s i k _ _ _ _ _ _ done.table c.hear.ensures.journal.owners c.hear.ensures.journal.limit (λ p. lists p ∙ done.lists p) (done.trays);
     }
 
 pub say-requires : goal.say-requires
@@ -53,7 +53,7 @@ say-requires g c =
     let journal = c.args.journal.now in
     let s : Station = parts g.J.Journal.owners g.J.Journal.limit g.J.Journal.lists c.args.table.now journal c.args.trays.now in
     let tells = handed_tells (codes_of g.K.OrderKind.decode) (g.R.QuorumRule.quorum c.args.rule.now) s c.args.from c.args.cabinet c.args.to (sym c.in_ok-check_hand.was ∙ c.check_hand.ensures) in
-    subst (λ n. c.args.to * tray_length n + tray_length n ≤ length s.trays) (sym c.hear.ensures.limit) tells.to_there
+    subst (λ n. c.args.to * tray_length n + tray_length n ≤ length s.trays) (sym c.hear.ensures.journal.limit) tells.to_there
 
 pub returns : goal.returns
 returns g c =
@@ -73,15 +73,15 @@ returns g c =
     let o : Outcome = by (tray_length s.limit) in
     let answer = c.hear.ensures.answer ∙ ap (λ n. said_by (by n)) size in
     let left = c.hear.ensures.«record» ∙ ap (λ n. left_by (cabinet_at s i) (by n)) size in
-    let lists : (p : ℕ) → g.J.Journal.lists c.hear.new.journal p ≡ lists_by s.lists i o p = λ p. c.hear.ensures.lists p ∙ ap (λ n. lists_by s.lists i (by n) p) size in
+    let lists : (p : ℕ) → g.J.Journal.lists c.hear.new.journal p ≡ lists_by s.lists i o p = λ p. c.hear.ensures.journal.lists p ∙ ap (λ n. lists_by s.lists i (by n) p) size in
     let ls' : ℕ → List Entry = g.J.Journal.lists c.hear.new.journal in
     let owners' : ℕ = g.J.Journal.owners c.hear.new.journal in
-    let short : length (ls' i) ≤ s.limit = omega (arith, g.J.Journal.laws.within c.hear.new.journal i, c.hear.ensures.limit) in
+    let short : length (ls' i) ≤ s.limit = omega (arith, g.J.Journal.laws.within c.hear.new.journal i, c.hear.ensures.journal.limit) in
     let names = listed_names s.owners s.lists i (cabinet_at s i) (heard codes quorum s from i k) (hear_names quorum s.limit i (s.lists i) (cabinet_at s i) codes (cabinets s) (tray_at s from)) in
     let done =
-    finished s i k c.in_ok-reply.reply c.hear.new.cabinet owners' ls' (omega (arith, tells.is_named.within, tells.is_named.owned, c.hear.ensures.owners)) (omega (arith, tells.is_named.limited)) short tells.to_there
-    (g.J.Journal.limit c.hear.new.journal) o _ c.hear.ensures.limit whole (sym c.in_ok-reply.was ∙ answer) left (lists i) names in
+    finished s i k c.in_ok-reply.reply c.hear.new.cabinet owners' ls' (omega (arith, tells.is_named.within, tells.is_named.owned, c.hear.ensures.journal.owners)) (omega (arith, tells.is_named.limited)) short tells.to_there
+    (g.J.Journal.limit c.hear.new.journal) o _ c.hear.ensures.journal.limit whole (sym c.in_ok-reply.was ∙ answer) left (lists i) names in
     record {
       answer = c.say.ensures.answer ∙ done.answer;
-      station = station_left s i k _ _ _ _ _ _ done.table c.hear.ensures.owners c.hear.ensures.limit (λ p. lists p ∙ done.lists p) (c.say.ensures.trays ∙ done.trays);
+      station = station_left s i k _ _ _ _ _ _ done.table c.hear.ensures.journal.owners c.hear.ensures.journal.limit (λ p. lists p ∙ done.lists p) (c.say.ensures.trays ∙ done.trays);
     }
