@@ -33,6 +33,7 @@ pub struct Cabinet {
 }
 
 // What a cabinet says after a step; a history's entries and the one of an entry frame are those of its list.
+// Silence is one of the seven: as an `Option`, every match over what is said would open two enums.
 #[derive(Clone, Copy)]
 pub enum Reply {
     Nothing,

@@ -35,6 +35,7 @@ pub fn commits<R: QuorumRule>(rule: &R, before: u16, entry: Entry, set: u16) -> 
 }
 
 // Where the last configuration among the first `count` entries stands. One pass over them.
+// The passes stay loops: as one fold, each would owe a closure's clause besides its invariant.
 pub fn last_before<J: Journal>(journal: &J, owner: u16, count: u16) -> Result<u16, Refusal>
     ensures { result ≡ front_answer (J.owners journal.now) (J.lists journal.now) owner count (last_before (J.lists journal.now owner) count) }
 {

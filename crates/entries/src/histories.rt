@@ -11,7 +11,7 @@ use journal::{Entry, Journal};
 use orders::OrderKind;
 use refusal::Refusal;
 
-// Entries that are taken one by one, from the first.
+// Entries that are taken one by one, from the first. An `Iterator` would tell of them by a relation, not by a list.
 trait InOrder {
     ghost rest: { Self → List Entry };
 

@@ -5,7 +5,8 @@ ghost use Rattle.entries.specs.Entries.{entries_of, entry_bytes, entry_in, place
 use journal::{Entry, EntryKind};
 use refusal::Refusal;
 
-// The entry that 16 bytes spell: the blank one, which no history may hold, where they spell none.
+// The entry that 16 bytes spell: the blank one, which no history may hold, where they spell none. No `Option`, since
+// the list that bytes spell has a blank in such a place.
 pub(crate) fn entry_in(bytes: &[u8; 16]) -> Entry
     ensures { result ≡ entry_in bytes.now }
 {

@@ -84,6 +84,7 @@ pub fn check_bounds(owners: usize, limit: usize) -> Result<(), Refusal>
 }
 
 // A journal is its owners' lists, the number of its owners and its limit; code above sees nothing else of it.
+// A list is read by position: of an iterator's items its contract tells by a relation, where these name the list.
 pub trait Journal {
     ghost owners: { Self → ℕ };
 

@@ -24,6 +24,7 @@ fn enroll(members: u16, list: &mut [u8])
     ensures front { Roster members (take (size_of members) list.new) }
     ensures rest { drop (size_of members) list.new ≡ drop (size_of members) list.old }
 {
+    // Counted by hand: of places lent by `iter_mut`, the loop's invariant cannot say what is already written.
     let mut next = 0;
     for cabinet in 0..16u8 {
         if !contains(members, cabinet) {

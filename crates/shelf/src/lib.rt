@@ -18,7 +18,7 @@ pub struct Row {
 pub struct Shelf<'a, T, const SPARE: u8> {
     // Owner i has the limit + SPARE places from i * (limit + SPARE) on.
     pub places: &'a mut [T],
-    // How many places of each owner are in use.
+    // How many places of each owner are in use. Apart from the places: the caller lends plain memory of each.
     pub counts: &'a mut [u16],
     owners: u16,
     limit: u16,

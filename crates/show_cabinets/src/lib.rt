@@ -1,7 +1,8 @@
 // Three cabinets through an election, an order and a change of members, one cabinet's step at a time.
 #![tactic(auto)]
 
-use cabinet::{Cabinet, Reply};
+use cabinet::{Cabinet, FOLLOWS, Reply, STANDS};
+use frames::FrameKind;
 use journal::{Entry, EntryKind, Journal};
 use orders::SetPoint;
 use questions::{committed, roster};
@@ -42,21 +43,23 @@ struct Plant<'a, J> {
     frame: [u8; 88],
 }
 
+// What the first byte of a frame says that it is.
 fn name(kind: u8) -> &'static str {
-    match kind {
-        1 => "a candidate",
-        2 => "a promise",
-        3 => "a history",
-        4 => "an entry",
-        5 => "an acknowledge",
-        _ => "a commit",
+    match FrameKind::try_from(kind) {
+        Ok(FrameKind::Candidate) => "a candidate",
+        Ok(FrameKind::Promise) => "a promise",
+        Ok(FrameKind::History) => "a history",
+        Ok(FrameKind::Entry) => "an entry",
+        Ok(FrameKind::Acknowledge) => "an acknowledge",
+        Ok(FrameKind::Commit) => "a commit",
+        Err(_) => "nothing known",
     }
 }
 
 fn role(number: u8) -> &'static str {
     match number {
-        0 => "follows",
-        1 => "stands",
+        FOLLOWS => "follows",
+        STANDS => "stands",
         _ => "leads",
     }
 }
