@@ -1,7 +1,7 @@
 ghost use Rattle.std.specs.Prelude.{◌≡◌, ℕ};
 ghost use Rattle.orders.specs.Kinds.{code_answer};
 ghost use Rattle.cabinet.specs.Steps.{SteppedOver, listed};
-ghost use Rattle.acts.specs.Acts.{enter_step, submit_step, members_entry, change_checks, change_step};
+ghost use Rattle.acts.specs.Acts.{enter_step, submit_step, change_checks, change_step};
 
 use crate::standing::check_leading;
 use cabinet::{Cabinet, Reply};
@@ -53,17 +53,6 @@ pub fn submit<K: OrderKind, J: Journal, R: QuorumRule>(
     enter(cabinet, number, journal, rule, Entry { epoch, kind, body })
 }
 
-// The entry of a member set, at the epoch that the cabinet leads.
-fn configuration(cabinet: &Cabinet, members: u16) -> Entry
-    ensures { result ≡ members_entry cabinet.now members }
-{
-    Entry {
-        epoch: cabinet.promised,
-        kind: EntryKind::Configuration,
-        body: members as u64,
-    }
-}
-
 // Whether the members may be changed, in a table of so many cabinets: 32 to 35.
 fn check_change<J: Journal, R: QuorumRule>(
     cabinet: &Cabinet,
@@ -83,7 +72,7 @@ fn check_change<J: Journal, R: QuorumRule>(
     if last_before(journal, number as u16, length)? >= cabinet.mark {
         return Err(Refusal::ChangePending);
     }
-    if !names_members(cabinets, configuration(cabinet, members)) {
+    if !names_members(cabinets, Entry::configuration(cabinet.promised, members)) {
         return Err(Refusal::BadMembers);
     }
     if !rule.is_quorum(members, cabinet.holders(cabinet.mark.saturating_sub(1))) {
@@ -108,6 +97,6 @@ pub fn change<J: Journal, R: QuorumRule>(
     cabinet.list_length(number, journal)?;
     check_leading(cabinet)?;
     check_change(cabinet, number, journal, rule, cabinets, version, members)?;
-    let entry = configuration(cabinet, members);
+    let entry = Entry::configuration(cabinet.promised, members);
     enter(cabinet, number, journal, rule, entry)
 }

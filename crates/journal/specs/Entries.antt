@@ -18,6 +18,10 @@ kind_numbered n = cond (n == 1) (Ok Configuration) (cond (n == 2) (Ok Order) (Er
 abbrev pub members_of : ℕ → ℕ
 members_of body = body % 65536
 
+-- a configuration of these members, at an epoch
+abbrev pub configuration : ℕ → ℕ → Entry
+configuration epoch members = record { epoch = epoch; kind = Configuration; body = members }
+
 -- what lies at a position that no list has
 abbrev pub blank : Entry
 blank = record { epoch = 0; kind = Configuration; body = 0 }

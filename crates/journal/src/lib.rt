@@ -2,7 +2,7 @@
 #![tactic(auto)]
 
 ghost use Rattle.std.specs.Prelude.{◌≡◌, ℕ, List};
-ghost use Rattle.journal.specs.Entries.{kind_number, kind_numbered, members_of};
+ghost use Rattle.journal.specs.Entries.{configuration, kind_number, kind_numbered, members_of};
 ghost use Rattle.journal.specs.Lists.{Laws, Relisted, append_answer, append_lists, entry_answer, keep_answer, keep_lists, length_answer};
 ghost use Rattle.journal.specs.Makes.{bounds_answer};
 ghost use Rattle.journal.specs.declared.Entry.{Entry};
@@ -56,6 +56,16 @@ impl Entry {
         kind: EntryKind::Configuration,
         body: 0,
     };
+
+    pub fn configuration(epoch: u32, members: u16) -> Entry
+        ensures { result ≡ configuration epoch members }
+    {
+        Entry {
+            epoch,
+            kind: EntryKind::Configuration,
+            body: members as u64,
+        }
+    }
 
     // The one place where a configuration's members are read from its body, which may come to hold more.
     pub fn members(self) -> u16

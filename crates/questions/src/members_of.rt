@@ -8,15 +8,8 @@ use cabinet::Cabinet;
 use configurations::members_before;
 use journal::Journal;
 use orders::OrderKind;
-use quorum::contains;
+use quorum::{contains, size};
 use refusal::Refusal;
-
-// How many members there are.
-fn size(members: u16) -> u8
-    ensures { result ≡ size_of members }
-{
-    members.count_ones() as u8
-}
 
 // Writes the members at the list's front.
 fn enroll(members: u16, list: &mut [u8])
@@ -50,7 +43,7 @@ pub fn roster<K: OrderKind, J: Journal>(
 {
     check::<K, J>(cabinets, number, cabinet, journal)?;
     let members = members_before(journal, number as u16, cabinet.mark)?;
-    let size = size(members);
+    let size = size(members) as u8;
     if list.len() < size as usize {
         return Err(Refusal::ListShort);
     }

@@ -1,15 +1,8 @@
-ghost use Rattle.std.specs.Prelude.{◌≡◌, ◌≤◌};
-ghost use Rattle.quorum.specs.MajorityRule.{size_of, majority};
+ghost use Rattle.std.specs.Prelude.{◌≡◌};
+ghost use Rattle.quorum.specs.MajorityRule.{majority};
 ghost use Rattle.quorum.specs.Lawful.{majority_members_count, majority_grows, majority_share_member};
 
-use crate::{Majority, QuorumRule};
-
-// How many cabinets are in the set.
-fn size(set: u16) -> u32
-    ensures { (result ≡ size_of set) × (result ≤ 16) }
-{
-    set.count_ones()
-}
+use crate::{Majority, QuorumRule, size};
 
 impl QuorumRule for Majority {
     ghost quorum = { λ _. majority };

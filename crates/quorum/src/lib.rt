@@ -4,8 +4,9 @@
 mod by_groups;
 mod by_majority;
 
-ghost use Rattle.std.specs.Prelude.{◌≡◌, ℕ, Bool};
+ghost use Rattle.std.specs.Prelude.{◌≡◌, ℕ, ◌≤◌, Bool};
 ghost use Rattle.quorum.specs.Sets.{has};
+ghost use Rattle.quorum.specs.MajorityRule.{size_of};
 ghost use Rattle.quorum.specs.Rules.{MembersCount, Grows, ShareMember};
 
 // Whether a cabinet is in a set.
@@ -13,6 +14,14 @@ pub fn contains(set: u16, cabinet: u8) -> bool
     ensures { result ≡ has set cabinet }
 {
     cabinet < 16 && (set >> cabinet) % 2 == 1
+}
+
+// How many cabinets are in a set.
+pub fn size(set: u16) -> u32
+    ensures size { result ≡ size_of set }
+    ensures few { result ≤ 16 }
+{
+    set.count_ones()
 }
 
 // Says which sets of cabinets are quorums of a member set. Sets are masks: cabinet i is the bit worth 2^i.

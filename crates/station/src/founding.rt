@@ -1,25 +1,14 @@
 ghost use Rattle.std.specs.Prelude.{◌≡◌, ℕ, ◌≤◌, [], ◌∷◌, if◌then◌else◌, Ok, nat_eq, nat_lt};
 ghost use Rattle.journal.specs.Lists.{Relisted, owned};
-ghost use Rattle.calls.specs.Stations.{found_answer, founding_entry, new_cabinet};
+ghost use Rattle.calls.specs.Stations.{found_answer, new_cabinet};
 ghost use Rattle.station.specs.Calling.{Founded, parts};
 
 use crate::checks::is_in_bounds;
 use cabinet::{Cabinet, FOLLOWS};
 use entries::names_members;
-use journal::{Entry, EntryKind, Journal};
+use journal::{Entry, Journal};
 use quorum::QuorumRule;
 use refusal::Refusal;
-
-// The founding entry of these members.
-fn founding(members: u16) -> Entry
-    ensures { result ≡ founding_entry members }
-{
-    Entry {
-        epoch: 0,
-        kind: EntryKind::Configuration,
-        body: members as u64,
-    }
-}
 
 // A cabinet as a founding leaves it.
 fn fresh() -> Cabinet
@@ -49,7 +38,9 @@ fn check_found<J: Journal, R: QuorumRule>(
     if !is_in_bounds(table, journal, trays) {
         return Err(Refusal::OutOfBounds);
     }
-    if names_members(table.len() as u8, founding(members)) && rule.is_quorum(members, members) {
+    if names_members(table.len() as u8, Entry::configuration(0, members))
+        && rule.is_quorum(members, members)
+    {
         Ok(())
     } else {
         Err(Refusal::BadFounders)
@@ -89,7 +80,11 @@ pub fn found<J: Journal, R: QuorumRule>(
         (parts J.owners J.limit J.lists table.new journal.new trays.new) members result }
 {
     check_found(table, journal, trays, rule, members)?;
-    open_lists(journal, table.len() as u16, founding(members))?;
+    open_lists(
+        journal,
+        table.len() as u16,
+        Entry::configuration(0, members),
+    )?;
     table.fill(fresh());
     trays.fill(0);
     Ok((0, 0))
