@@ -11,7 +11,7 @@ use Rattle.journal.specs.declared.Entry.{Entry}
 use Rattle.journal.specs.Entries.{blank}
 use Rattle.records.specs.declared.Record.{Record}
 use Rattle.records.specs.declared.Record.TheVariants.{Append, Keep}
-use Rattle.records.specs.Replay.{step, step_length, replay, found_after}
+use Rattle.records.specs.Replay.{step, step_length, replay, known_after}
 
 -- what lies at a place that no slice has
 abbrev pub first : Record
@@ -69,14 +69,14 @@ moved limit k rs es (Keep n) is h front =
 pub replay_more : (limit : ℕ) (rs : List Record) (i : ℕ) → i < length rs → replay limit (take (i + 1) rs) ≡ step limit (replay limit (take i rs)) (get_or rs i first)
 replay_more limit rs i h = fold_more (step limit) [] rs i first h
 
-found_append : (limit i : ℕ) (es : List Entry) (e : Entry) → slice_get (step limit es (Append e)) i ≡ found_after limit (length es) i (slice_get es i) (Append e)
+found_append : (limit i : ℕ) (es : List Entry) (e : Entry) → slice_get (step limit es (Append e)) i ≡ known_after limit (length es) i (slice_get es i) (Append e)
 found_append limit i es e = grind (arith, nat_tests, common_steps, gets)
 
-found_keep : (limit i m : ℕ) (es : List Entry) → slice_get (step limit es (Keep m)) i ≡ found_after limit (length es) i (slice_get es i) (Keep m)
+found_keep : (limit i m : ℕ) (es : List Entry) → slice_get (step limit es (Keep m)) i ≡ known_after limit (length es) i (slice_get es i) (Keep m)
 found_keep limit i m es = grind (arith, nat_tests, common_steps, gets)
 
 -- one record changes what stands at a position by the list's length and what stood there alone
-pub found_step : (limit i : ℕ) (es : List Entry) (r : Record) → slice_get (step limit es r) i ≡ found_after limit (length es) i (slice_get es i) r
+pub found_step : (limit i : ℕ) (es : List Entry) (r : Record) → slice_get (step limit es r) i ≡ known_after limit (length es) i (slice_get es i) r
 found_step limit i es (Append e) = found_append limit i es e
 found_step limit i es (Keep m) = found_keep limit i m es
 

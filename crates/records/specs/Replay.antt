@@ -26,9 +26,9 @@ abbrev pub entry_at : List Entry → ℕ → Result Entry Refusal
 entry_at es i = cond (nat_lt i (length es)) (Ok (slice_index_or es i blank)) (Err NoPosition)
 
 -- what a list of n entries has at a position after a record: the entry appended there, nothing where it was cut, else what it had
-abbrev pub found_after : ℕ → ℕ → ℕ → Option Entry → Record → Option Entry
-found_after limit n i known (Append e) = cond (n == i && nat_lt n limit) (Some e) known
-found_after limit n i known (Keep m) = cond (nat_le m i) None known
+abbrev pub known_after : ℕ → ℕ → ℕ → Option Entry → Record → Option Entry
+known_after limit n i known (Append e) = cond (n == i && nat_lt n limit) (Some e) known
+known_after limit n i known (Keep m) = cond (nat_le m i) None known
 
 -- a record added: how many first records then stand for the list with it; 3 and no change where there are not limit + 1 records
 abbrev pub Pushed : ℕ → ℕ → Record → List Record → List Record → Result ℕ Refusal → Type 0

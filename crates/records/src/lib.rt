@@ -2,7 +2,7 @@
 #![tactic(auto)]
 
 ghost use Rattle.std.specs.Prelude.{◌≡◌, ◌<◌, map, length, take};
-ghost use Rattle.records.specs.Replay.{Pushed, entry_at, found_after, replay, step_length};
+ghost use Rattle.records.specs.Replay.{Pushed, entry_at, known_after, replay, step_length};
 ghost use Rattle.records.specs.declared.Record.TheVariants.{Append};
 
 use journal::Entry;
@@ -35,7 +35,7 @@ impl Record {
         position: u16,
         known: Option<Entry>,
     ) -> Option<Entry>
-        ensures { result ≡ found_after limit live position known self }
+        ensures { result ≡ known_after limit live position known self }
     {
         match self {
             Record::Append(entry) if live == position && live < limit => Some(entry),
