@@ -1,4 +1,4 @@
-// Entries and frames, from bytes to messages: the layout, the rules of its fields, and the reader.
+// Frames, from bytes to messages: the layout, the rules of its fields, and the reader.
 #![tactic(auto)]
 
 mod headers;

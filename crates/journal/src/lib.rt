@@ -102,8 +102,6 @@ pub trait Journal {
 
     ghost lists: { Self → ℕ → List Entry };
 
-    ghost laws: { Laws owners limit lists };
-
     fn owners(&self) -> u16
         ensures { result ≡ owners self.now };
 
@@ -127,4 +125,6 @@ pub trait Journal {
     fn keep(&mut self, owner: u16, count: u16) -> Result<(), Refusal>
         ensures answer { result ≡ keep_answer (owners self.old) (lists self.old) owner count }
         ensures journal { Relisted owners limit lists self.old self.new (keep_lists (owners self.old) (lists self.old) owner count) };
+
+    ghost laws: { Laws owners limit lists };
 }

@@ -82,8 +82,8 @@ returns-in_err-length g c =
     let heard : Outcome = listed owners ls i before (hear_step codes quorum cabinets limit i (ls i) before bytes) in
     let owner = place_tells cabinets owners i placed in
     let names = listed_names owners ls i before (hear_step codes quorum cabinets limit i (ls i) before bytes) (hear_names quorum limit i (ls i) before codes cabinets bytes) in
-    let least : 1 ≤ limit = omega (arith, g.J.Journal.laws.limit_least c.args.journal.now) in
-    let short : length (g.J.Journal.lists c.hear.new.journal i) ≤ limit = omega (arith, g.J.Journal.laws.within c.hear.new.journal i, c.hear.ensures.journal.limit) in
+    let least : 1 ≤ limit = omega (arith, g.met.J.Journal.laws.limit_least c.args.journal.now) in
+    let short : length (g.J.Journal.lists c.hear.new.journal i) ≤ limit = omega (arith, g.met.J.Journal.laws.within c.hear.new.journal i, c.hear.ensures.journal.limit) in
     let said =
     spoken (g.J.Journal.owners c.hear.new.journal) limit i ls (g.J.Journal.lists c.hear.new.journal) before c.hear.new.cabinet c.in_ok-reply.reply out (omega (arith, owner, c.hear.ensures.journal.owners)) least short roomy
     heard (sym c.in_ok-reply.was ∙ c.hear.ensures.answer) c.hear.ensures.«record» (c.hear.ensures.journal.lists i) names in
@@ -109,8 +109,8 @@ returns g c =
     let heard : Outcome = listed owners ls i before (hear_step codes quorum cabinets limit i (ls i) before bytes) in
     let owner = place_tells cabinets owners i placed in
     let names = listed_names owners ls i before (hear_step codes quorum cabinets limit i (ls i) before bytes) (hear_names quorum limit i (ls i) before codes cabinets bytes) in
-    let least : 1 ≤ limit = omega (arith, g.J.Journal.laws.limit_least c.args.journal.now) in
-    let short : length (g.J.Journal.lists c.hear.new.journal i) ≤ limit = omega (arith, g.J.Journal.laws.within c.hear.new.journal i, c.hear.ensures.journal.limit) in
+    let least : 1 ≤ limit = omega (arith, g.met.J.Journal.laws.limit_least c.args.journal.now) in
+    let short : length (g.J.Journal.lists c.hear.new.journal i) ≤ limit = omega (arith, g.met.J.Journal.laws.within c.hear.new.journal i, c.hear.ensures.journal.limit) in
     let said =
     spoken (g.J.Journal.owners c.hear.new.journal) limit i ls (g.J.Journal.lists c.hear.new.journal) before c.hear.new.cabinet c.in_ok-reply.reply out (omega (arith, owner, c.hear.ensures.journal.owners)) least short roomy
     heard (sym c.in_ok-reply.was ∙ c.hear.ensures.answer) c.hear.ensures.«record» (c.hear.ensures.journal.lists i) names in

@@ -63,7 +63,7 @@ returns g c =
     let whole = does_step codes s i k step called-ok in
     let o : Outcome = listed s.owners s.lists i (cabinet_at s i) step in
     let ls' : ℕ → List Entry = g.J.Journal.lists c.act.new.journal in
-    let short : length (ls' i) ≤ s.limit = omega (arith, g.J.Journal.laws.within c.act.new.journal i, c.act.ensures.journal.limit) in
+    let short : length (ls' i) ≤ s.limit = omega (arith, g.met.J.Journal.laws.within c.act.new.journal i, c.act.ensures.journal.limit) in
     let names = listed_names s.owners s.lists i (cabinet_at s i) step (act_names quorum s.limit i (s.lists i) (cabinet_at s i) (kind_of g.K.OrderKind.proper g.K.OrderKind.encode g.K.OrderKind.decode) (cabinets s) c.args.step.now) in
     let done =
     finished s i k c.in_ok-reply.reply c.act.new.cabinet (g.J.Journal.owners c.act.new.journal) ls' (omega (arith, tells.is_named.within, tells.is_named.owned, c.act.ensures.journal.owners)) (omega (arith, tells.is_named.limited)) short tells.room

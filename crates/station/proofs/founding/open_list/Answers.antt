@@ -29,7 +29,7 @@ returns g c =
     let o : ℕ = c.args.owner in
     let there = kept_none owners o ls (sym c.in_ok-keep.was ∙ c.keep.ensures.answer) in
     let limit : ℕ = g.J.Journal.limit c.keep.new.self in
-    let done = opened owners o ls limit kept c.args.entry there (g.J.Journal.laws.limit_least c.keep.new.self) (λ p. c.keep.ensures.journal.lists p ∙ keep_empties owners o ls there p) in
+    let done = opened owners o ls limit kept c.args.entry there (g.met.J.Journal.laws.limit_least c.keep.new.self) (λ p. c.keep.ensures.journal.lists p ∙ keep_empties owners o ls there p) in
     let some = lt-ltb o owners there in
     record {
       answer = c.append.ensures.answer ∙ ap (λ n. append_answer n limit kept o) c.keep.ensures.journal.owners ∙ done.0 ∙ sym (cond-true (ltb o owners) (Ok tt) (Err NoCabinet) some);

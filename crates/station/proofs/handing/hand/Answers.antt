@@ -76,7 +76,7 @@ returns g c =
     let lists : (p : ℕ) → g.J.Journal.lists c.hear.new.journal p ≡ lists_by s.lists i o p = λ p. c.hear.ensures.journal.lists p ∙ ap (λ n. lists_by s.lists i (by n) p) size in
     let ls' : ℕ → List Entry = g.J.Journal.lists c.hear.new.journal in
     let owners' : ℕ = g.J.Journal.owners c.hear.new.journal in
-    let short : length (ls' i) ≤ s.limit = omega (arith, g.J.Journal.laws.within c.hear.new.journal i, c.hear.ensures.journal.limit) in
+    let short : length (ls' i) ≤ s.limit = omega (arith, g.met.J.Journal.laws.within c.hear.new.journal i, c.hear.ensures.journal.limit) in
     let names = listed_names s.owners s.lists i (cabinet_at s i) (heard codes quorum s from i k) (hear_names quorum s.limit i (s.lists i) (cabinet_at s i) codes (cabinets s) (tray_at s from)) in
     let done =
     finished s i k c.in_ok-reply.reply c.hear.new.cabinet owners' ls' (omega (arith, tells.is_named.within, tells.is_named.owned, c.hear.ensures.journal.owners)) (omega (arith, tells.is_named.limited)) short tells.to_there
