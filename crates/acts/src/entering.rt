@@ -1,4 +1,4 @@
-ghost use Rattle.std.specs.Prelude.{◌≡◌, ℕ};
+ghost use Rattle.std.specs.Prelude.{◌≡◌};
 ghost use Rattle.orders.specs.Kinds.{code_answer};
 ghost use Rattle.cabinet.specs.Steps.{SteppedOver, listed};
 ghost use Rattle.acts.specs.Acts.{enter_step, submit_step, change_checks, change_step};

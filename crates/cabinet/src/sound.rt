@@ -1,7 +1,15 @@
-ghost use Rattle.std.specs.Prelude.{◌≡◌};
+ghost use Rattle.std.specs.Prelude.{◌≡◌, nat_le};
+ghost use Rattle.std.specs.List.{list_all};
 ghost use Rattle.cabinet.specs.Soundness.{role_sound, record_sound, none_above};
 
 use crate::{Cabinet, FOLLOWS, LEADS, STANDS};
+
+// Whether each length is at most the most.
+fn are_within(lengths: &[u16], most: u16) -> bool
+    ensures { result ≡ list_all (λ n. nat_le n most) lengths.now }
+{
+    lengths.iter().all(|length| *length <= most)
+}
 
 impl Cabinet {
     // Whether it stands or leads only at an epoch of its own, and leads only one that it accepted.
@@ -15,9 +23,9 @@ impl Cabinet {
 
     // Whether no acknowledged length is above the most.
     fn none_above(&self, most: u16) -> bool
-        ensures { result ≡ none_above self.now.acknowledged most }
+        ensures { result ≡ none_above self.now.acknowledged most 16 }
     {
-        self.acknowledged.iter().all(|length| *length <= most)
+        are_within(&self.acknowledged, most)
     }
 
     // Whether the record is one that the cabinet may have beside a list of that length.

@@ -1,5 +1,4 @@
 ghost use Rattle.std.specs.Prelude.{◌≡◌, ℕ, ◌-◌, Bool, length, Ok};
-ghost use Rattle.journal.specs.Entries.{members_of};
 ghost use Rattle.journal.specs.Lists.{owned};
 ghost use Rattle.entries.specs.Histories.{is_configuration};
 ghost use Rattle.configurations.specs.Tests.{Computes};

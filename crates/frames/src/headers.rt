@@ -5,7 +5,8 @@ ghost use Rattle.std.specs.Prelude.{◌≡◌};
 use crate::{Fields, FrameKind, Header, Numbers};
 use refusal::Refusal;
 
-// The two stay apart, here and below: one is a table's, the other a journal's, and no value holds both.
+// 1 for a number of cabinets or a limit outside its bounds. The two stay apart, here and in the writer: one is a
+// table's, the other a journal's, and no value holds both.
 pub fn check_bounds(cabinets: u8, limit: u16) -> Result<(), Refusal>
     ensures { result ≡ bounds_answer cabinets limit }
 {
@@ -16,7 +17,7 @@ pub fn check_bounds(cabinets: u8, limit: u16) -> Result<(), Refusal>
     }
 }
 
-// The six bytes that end a header, and what lies behind them.
+// Whether the six bytes that end a header are zeros; what lies behind them is not looked at.
 fn is_zero(bytes: &[u8]) -> bool
     ensures { result ≡ zeros_in bytes.now }
 {

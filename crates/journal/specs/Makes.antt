@@ -1,5 +1,5 @@
 -- When a journal can be made over lent memory, and with which numbers: what the contracts of every make cite. Assumes nothing.
-use Rattle.std.specs.Prelude.{ℕ, Bool, cond, ◌&&◌, Ok, Err, Result, nat_le}
+use Rattle.std.specs.Prelude.{◌≡◌, ℕ, Bool, cond, ◌&&◌, List, [], Ok, Err, Result, nat_le}
 use Rattle.refusal.specs.declared.Refusal.{Refusal}
 use Rattle.refusal.specs.declared.Refusal.TheVariants.{OutOfBounds, NoTray}
 
@@ -25,3 +25,9 @@ made_owners owners (Err _) = 0
 abbrev pub made_limit : ℕ → Result (Unit {0}) Refusal → ℕ
 made_limit limit (Ok _) = limit
 made_limit limit (Err _) = 2
+
+-- what is laid after this measure has the owners and the limit that are made, and of each owner nothing yet
+pub record Laid {S A : Type 0} (owners_of limit_of : S → ℕ) (lists_of : S → ℕ → List A) (made : S) (asked most : ℕ) (measure : Result (Unit {0}) Refusal) : Type 0 where
+  pub owners : owners_of made ≡ made_owners asked measure
+  pub limit : limit_of made ≡ made_limit most measure
+  pub empty : (o : ℕ) → lists_of made o ≡ []

@@ -8,6 +8,8 @@ ghost use Rattle.journal.specs.Makes.{bounds_answer};
 ghost use Rattle.journal.specs.declared.Entry.{Entry};
 
 use refusal::Refusal;
+use std::error::Error;
+use std::fmt;
 
 #[derive(Clone, Copy, Debug, PartialEq, Eq)]
 pub enum EntryKind {
@@ -26,6 +28,14 @@ impl EntryKind {
 // A number that no kind of entry has.
 #[derive(Clone, Copy, Debug, PartialEq, Eq)]
 pub struct UnknownKind(pub u8);
+
+impl fmt::Display for UnknownKind {
+    fn fmt<W: fmt::Write>(&self, f: &mut fmt::Formatter<W>) -> fmt::Result {
+        write!(f, "no kind of entry has the number {}", self.0)
+    }
+}
+
+impl Error for UnknownKind {}
 
 impl TryFrom<u8> for EntryKind {
     type Error = UnknownKind;
@@ -94,7 +104,8 @@ pub fn check_bounds(owners: usize, limit: usize) -> Result<(), Refusal>
 }
 
 // A journal is its owners' lists, the number of its owners and its limit; code above sees nothing else of it.
-// A list is read by position: of an iterator's items its contract tells by a relation, where these name the list.
+// A list is read by owner and position, as a slice is by its index: as a struct the two would stand behind one more
+// reference in every clause, and of an iterator's items a contract tells by a relation, where these name the list.
 pub trait Journal {
     ghost owners: { Self → ℕ };
 

@@ -1,4 +1,4 @@
-ghost use Rattle.std.specs.Prelude.{◌≡◌, ℕ};
+ghost use Rattle.std.specs.Prelude.{◌≡◌};
 ghost use Rattle.cabinet.specs.Steps.{SteppedOver, Stepped};
 ghost use Rattle.messages.specs.Messages.{told_mark, commit_step, entry_step};
 

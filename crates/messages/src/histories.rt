@@ -1,7 +1,7 @@
-ghost use Rattle.std.specs.Prelude.{◌≡◌, ℕ, ◌<◌, ◌≤◌, length, Ok};
+ghost use Rattle.std.specs.Prelude.{◌≡◌, ◌<◌, ◌≤◌, length, Ok};
 ghost use Rattle.entries.specs.Entries.{entries_of};
 ghost use Rattle.cabinet.specs.Steps.{SteppedOver, listed};
-ghost use Rattle.messages.specs.Messages.{same_entry, same_front, keeps_committed, accepts, adopt_step, history_step};
+ghost use Rattle.messages.specs.Messages.{same_front, keeps_committed, accepts, adopt_step, history_step};
 
 use cabinet::{Cabinet, Reply};
 use entries::{entry, replace};

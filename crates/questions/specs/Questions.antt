@@ -1,5 +1,5 @@
 -- What a running, sound cabinet answers when it is asked for an entry or for its members. Assumes nothing.
-use Rattle.std.specs.Prelude.{◌≡◌, ℕ, ◌<◌, Bool, true, cond, List, length, take, Ok, Err, Result, nat_le, nat_lt, slice_index, slice_index_or}
+use Rattle.std.specs.Prelude.{◌≡◌, ℕ, ◌<◌, Bool, true, cond, List, length, take, drop, Ok, Err, Result, nat_le, nat_lt, slice_index, slice_index_or}
 use Rattle.refusal.specs.declared.Refusal.{Refusal}
 use Rattle.refusal.specs.declared.Refusal.TheVariants.{NoPosition, ListShort}
 use Rattle.refusal.specs.Answers.{and_then}
@@ -45,3 +45,9 @@ filled (Err e) = 0
 abbrev pub Enrolled : ℕ → List ℕ → Result ℕ Refusal → Type 0
 Enrolled members list (Ok n) = Roster members (take n list)
 Enrolled members list (Err e) = Unit {0}
+
+-- a roster of these members has been asked for: the answer, the front of the list, and that the rest is as it was
+pub record Listed (members : ℕ) (before after : List ℕ) (said due : Result ℕ Refusal) : Type 0 where
+  pub answer : said ≡ due
+  pub front : Enrolled members after due
+  pub rest : drop (filled due) after ≡ drop (filled due) before

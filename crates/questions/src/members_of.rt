@@ -1,7 +1,7 @@
 ghost use Rattle.std.specs.Prelude.{◌≡◌, ◌≤◌, length, take, drop};
 ghost use Rattle.entries.specs.Histories.{codes_of};
 ghost use Rattle.quorum.specs.MajorityRule.{size_of};
-ghost use Rattle.questions.specs.Questions.{Enrolled, Roster, committed_members, filled, roster_answer};
+ghost use Rattle.questions.specs.Questions.{Listed, Roster, committed_members, roster_answer};
 
 use crate::readiness::check;
 use cabinet::Cabinet;
@@ -37,9 +37,8 @@ pub fn roster<K: OrderKind, J: Journal>(
     journal: &J,
     list: &mut [u8],
 ) -> Result<u8, Refusal>
-    ensures answer { result ≡ roster_answer (codes_of K.decode) cabinets (J.owners journal.now) (J.limit journal.now) number (J.lists journal.now number) cabinet.now (length list.old) }
-    ensures front { Enrolled (committed_members (J.lists journal.now number) cabinet.now) list.new (roster_answer (codes_of K.decode) cabinets (J.owners journal.now) (J.limit journal.now) number (J.lists journal.now number) cabinet.now (length list.old)) }
-    ensures rest { drop (filled (roster_answer (codes_of K.decode) cabinets (J.owners journal.now) (J.limit journal.now) number (J.lists journal.now number) cabinet.now (length list.old))) list.new ≡ drop (filled (roster_answer (codes_of K.decode) cabinets (J.owners journal.now) (J.limit journal.now) number (J.lists journal.now number) cabinet.now (length list.old))) list.old }
+    ensures { Listed (committed_members (J.lists journal.now number) cabinet.now) list.old list.new result
+        (roster_answer (codes_of K.decode) cabinets (J.owners journal.now) (J.limit journal.now) number (J.lists journal.now number) cabinet.now (length list.old)) }
 {
     check::<K, J>(cabinets, number, cabinet, journal)?;
     let members = members_before(journal, number as u16, cabinet.mark)?;

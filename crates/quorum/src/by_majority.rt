@@ -1,4 +1,3 @@
-ghost use Rattle.std.specs.Prelude.{◌≡◌};
 ghost use Rattle.quorum.specs.MajorityRule.{majority};
 ghost use Rattle.quorum.specs.Lawful.{majority_members_count, majority_grows, majority_share_member};
 

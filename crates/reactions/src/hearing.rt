@@ -1,4 +1,4 @@
-ghost use Rattle.std.specs.Prelude.{◌≡◌, ℕ, slice_index_or};
+ghost use Rattle.std.specs.Prelude.{◌≡◌, slice_index_or};
 ghost use Rattle.journal.specs.Entries.{blank};
 ghost use Rattle.entries.specs.Entries.{entries_of};
 ghost use Rattle.entries.specs.Histories.{codes_of};
@@ -18,7 +18,7 @@ use orders::OrderKind;
 use quorum::QuorumRule;
 use refusal::Refusal;
 
-// The first entry that bytes spell; a blank one where they spell none, as no frame's do.
+// The first entry that bytes spell; a blank one where they spell none, as no frame's do: the reader has seen to it.
 fn first_entry(bytes: &[u8]) -> Entry
     ensures { result ≡ slice_index_or (entries_of bytes.now) 0 blank }
 {

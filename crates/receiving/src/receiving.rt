@@ -19,7 +19,8 @@ pub fn tray_length(limit: u16) -> usize
 }
 
 // Bytes are brought to one cabinet of a table of so many, and its answer is written as a frame with zeros behind it.
-// Answers 0 and the frame's length, 0 where the cabinet says nothing; then the buffer is as it was.
+// Answers 0 and the frame's length, 0 where the cabinet says nothing; then the buffer is as it was. A pair of numbers,
+// not an `Option`: it is the answer that the plant's callers of other languages know.
 pub fn receive<K: OrderKind, J: Journal, R: QuorumRule>(
     cabinet: &mut Cabinet,
     number: u8,

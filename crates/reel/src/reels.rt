@@ -1,7 +1,7 @@
 // A reel for each owner, as a journal.
-ghost use Rattle.std.specs.Prelude.{◌≡◌, ℕ, ◌+◌, ◌*◌, [], length, Ok};
+ghost use Rattle.std.specs.Prelude.{◌≡◌, ◌+◌, ◌*◌, length, Ok};
 ghost use Rattle.journal.specs.Lists.{Relisted, owned};
-ghost use Rattle.journal.specs.Makes.{made_limit, made_owners, measure_answer};
+ghost use Rattle.journal.specs.Makes.{Laid, measure_answer};
 ghost use Rattle.reel.specs.Lawful.{reel_laws};
 ghost use Rattle.reel.specs.Meaning.{add_lists, limit_of, lists_of, owners_of, replays};
 ghost use Rattle.shelf.specs.Rows.{shelf_limit, shelf_owners};
@@ -25,9 +25,8 @@ pub fn lay<'a>(
     owners: usize,
     limit: usize,
 ) -> Reel<'a>
-    ensures owners { owners_of result ≡ made_owners owners (measure_answer owners limit (owners * (limit + 1)) (length records.old) (length used.old)) }
-    ensures limit { limit_of result ≡ made_limit limit (measure_answer owners limit (owners * (limit + 1)) (length records.old) (length used.old)) }
-    ensures empty { (p : ℕ) → lists_of result p ≡ [] }
+    ensures { Laid owners_of limit_of lists_of result owners limit
+        (measure_answer owners limit (owners * (limit + 1)) (length records.old) (length used.old)) }
 {
     Reel {
         records: Records::lay(records, used, owners, limit),

@@ -4,6 +4,7 @@ use Rattle.std.proofs.lemmas.Bool.{and_parts}
 use Rattle.quorum.specs.Sets.{weigh}
 use Rattle.quorum.specs.MajorityRule.{majority}
 use Rattle.cabinet.specs.Records.{holders_below}
+use Rattle.cabinet.specs.Soundness.{none_above}
 use Rattle.configurations.specs.Configurations.{last_before, members_before, version_before, each_from}
 use Rattle.committing.specs.Committing.{risen}
 use Rattle.messages.specs.Messages.{same_front}
@@ -29,12 +30,12 @@ module _ {A : Type 0} (kind : Kind A) (quorum : ℕ → ℕ → Bool) where
 
 -- every call is accepted
 all_accepted : each_accepted points majority (founded parts 7) calls ≡ true
-unfolding weigh holders_below last_before members_before version_before each_from risen same_front
+unfolding weigh holders_below none_above last_before members_before version_before each_from risen same_front
 all_accepted = refl
 
 -- what comes of the service
 pub served : Served
-unfolding weigh holders_below last_before members_before version_before each_from risen same_front
+unfolding weigh holders_below none_above last_before members_before version_before each_from risen same_front
 served = record {
   founding_accepted = refl;
   calls_accepted = at_its_moment points majority (founded parts 7) calls all_accepted;

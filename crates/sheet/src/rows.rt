@@ -1,5 +1,5 @@
-ghost use Rattle.std.specs.Prelude.{◌≡◌, ℕ, ◌*◌, [], length};
-ghost use Rattle.journal.specs.Makes.{made_limit, made_owners, measure_answer};
+ghost use Rattle.std.specs.Prelude.{◌≡◌, ◌*◌, length};
+ghost use Rattle.journal.specs.Makes.{Laid, measure_answer};
 ghost use Rattle.sheet.specs.Lawful.{sheet_laws};
 ghost use Rattle.sheet.specs.Meaning.{limit_of, lists_of, owners_of};
 
@@ -21,9 +21,8 @@ pub fn lay<'a>(
     owners: usize,
     limit: usize,
 ) -> Sheet<'a>
-    ensures owners { owners_of result ≡ made_owners owners (measure_answer owners limit (owners * limit) (length rows.old) (length lengths.old)) }
-    ensures limit { limit_of result ≡ made_limit limit (measure_answer owners limit (owners * limit) (length rows.old) (length lengths.old)) }
-    ensures empty { (p : ℕ) → lists_of result p ≡ [] }
+    ensures { Laid owners_of limit_of lists_of result owners limit
+        (measure_answer owners limit (owners * limit) (length rows.old) (length lengths.old)) }
 {
     Sheet {
         rows: Rows::lay(rows, lengths, owners, limit),
@@ -59,8 +58,8 @@ impl Journal for Sheet<'_> {
     }
 
     fn append(&mut self, owner: u16, entry: Entry) -> Result<(), Refusal> {
-        let row = self.rows.row(owner)?;
         // Here and in the reel: a helper over `Journal` is refused within the impl, as its call leads back to it.
+        let row = self.rows.row(owner)?;
         if row.used >= self.limit() as usize {
             return Err(Refusal::Full);
         }

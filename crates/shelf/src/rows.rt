@@ -1,5 +1,5 @@
-ghost use Rattle.std.specs.Prelude.{◌≡◌, ℕ, ◌+◌, ◌*◌, ◌≤◌, [], length};
-ghost use Rattle.journal.specs.Makes.{made_limit, made_owners, measure_answer};
+ghost use Rattle.std.specs.Prelude.{◌≡◌, ◌+◌, ◌*◌, length};
+ghost use Rattle.journal.specs.Makes.{Laid, measure_answer};
 ghost use Rattle.shelf.specs.Rows.{Used, Within, row_answer, shelf_limit, shelf_owners, used_of};
 
 use crate::{Row, Shelf};
@@ -19,11 +19,11 @@ impl<'a, T, const SPARE: u8> Shelf<'a, T, SPARE> {
         Ok(())
     }
 
-    // The empty shelf over this memory; where `measure` refuses, a shelf without owners and with limit 2.
+    // The empty shelf over this memory; where `measure` refuses, a shelf without owners and with limit 2: no `Result`,
+    // since a make never fails, and who does not ask `measure` first gets a journal that refuses every call.
     pub fn lay(places: &'a mut [T], counts: &'a mut [u16], owners: usize, limit: usize) -> Self
-        ensures owners { shelf_owners result ≡ made_owners owners (measure_answer owners limit (owners * (limit + SPARE)) (length places.old) (length counts.old)) }
-        ensures limit { shelf_limit result ≡ made_limit limit (measure_answer owners limit (owners * (limit + SPARE)) (length places.old) (length counts.old)) }
-        ensures empty { (o : ℕ) → used_of result o ≡ [] }
+        ensures { Laid shelf_owners shelf_limit used_of result owners limit
+            (measure_answer owners limit (owners * (limit + SPARE)) (length places.old) (length counts.old)) }
     {
         match Self::measure(places, counts, owners, limit) {
             Ok(()) => {

@@ -1,4 +1,3 @@
-ghost use Rattle.std.specs.Prelude.{◌≡◌, ℕ};
 ghost use Rattle.entries.specs.Histories.{codes_of};
 ghost use Rattle.calls.specs.Stations.{cabinets, cabinet_at};
 ghost use Rattle.calls.specs.Calls.{acting, kind_of};

@@ -1,4 +1,4 @@
-ghost use Rattle.std.specs.Prelude.{◌≡◌, ℕ, ◌≤◌, [], ◌∷◌, if◌then◌else◌, Ok, nat_eq, nat_lt};
+ghost use Rattle.std.specs.Prelude.{◌≡◌, ◌≤◌, [], ◌∷◌, if◌then◌else◌, Ok, nat_eq, nat_lt};
 ghost use Rattle.journal.specs.Lists.{Relisted, owned};
 ghost use Rattle.calls.specs.Stations.{found_answer, new_cabinet};
 ghost use Rattle.station.specs.Calling.{Founded, parts};

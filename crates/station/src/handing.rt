@@ -1,4 +1,4 @@
-ghost use Rattle.std.specs.Prelude.{◌≡◌, ◌+◌, ◌*◌, ◌≤◌, ◌==◌, ℕ, not, length, slice_index};
+ghost use Rattle.std.specs.Prelude.{◌≡◌, ◌+◌, ◌*◌, ◌≤◌, ◌==◌, not, length, slice_index};
 ghost use Rattle.refusal.specs.Answers.{unless};
 ghost use Rattle.refusal.specs.declared.Refusal.TheVariants.{EmptyTray};
 ghost use Rattle.receiving.specs.Readiness.{tray_length};

@@ -1,4 +1,3 @@
-ghost use Rattle.std.specs.Prelude.{◌≡◌, ℕ};
 ghost use Rattle.entries.specs.Histories.{codes_of};
 ghost use Rattle.calls.specs.Calls.{stand_call, submit_call, change_call, refresh_call, kind_of};
 ghost use Rattle.station.specs.Calling.{Ended, parts};

@@ -1,4 +1,3 @@
-ghost use Rattle.std.specs.Prelude.{◌≡◌};
 ghost use Rattle.calls.specs.Calls.{stop_call, start_call};
 ghost use Rattle.station.specs.Calling.{Ended, parts};
 

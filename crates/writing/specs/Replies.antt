@@ -1,5 +1,5 @@
 -- What a writer of a cabinet's replies answers, and what it leaves in the caller's buffer. Assumes nothing.
-use Rattle.std.specs.Prelude.{ℕ, ◌-◌, Bool, true, List, ◌++◌, length, replicate, Ok, Err, Option, Result, nat_le, nat_lt}
+use Rattle.std.specs.Prelude.{◌≡◌, ℕ, ◌-◌, Bool, true, List, ◌++◌, length, replicate, Ok, Err, Option, Result, nat_le, nat_lt}
 use Rattle.refusal.specs.declared.Refusal.{Refusal}
 use Rattle.refusal.specs.declared.Refusal.TheVariants.{NoTray, NoPosition}
 use Rattle.refusal.specs.Answers.{and_then, unless}
@@ -34,6 +34,11 @@ reply_answer owners o room sender epoch l reply =
 abbrev pub filled_by : List ℕ → List ℕ → Result ℕ Refusal → List ℕ
 filled_by out filled (Ok n) = filled
 filled_by out filled (Err e) = out
+
+-- a frame has been asked for, with this answer due: the answer, and the buffer with the frame, or as it was
+pub record Filled (before after : List ℕ) (said due : Result ℕ Refusal) (frame : List ℕ) : Type 0 where
+  pub answer : said ≡ due
+  pub buffer : after ≡ filled_by before frame due
 
 -- what the writer answers for a frame without entries
 abbrev pub bare_answer : ℕ → Result ℕ Refusal

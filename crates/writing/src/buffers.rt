@@ -2,7 +2,7 @@
 ghost use Rattle.std.specs.Prelude.{◌≡◌, ℕ, ◌+◌, ◌-◌, ◌*◌, ◌≤◌, List, ◌++◌, length, take, replicate, Ok};
 ghost use Rattle.frames.specs.Letters.{frame_length, header_bytes};
 ghost use Rattle.refusal.specs.Answers.{and_then};
-ghost use Rattle.writing.specs.Replies.{filled_by};
+ghost use Rattle.writing.specs.Replies.{Filled};
 ghost use Rattle.writing.specs.Writing.{over, room_answer};
 
 use crate::writer::check_room;
@@ -103,8 +103,9 @@ impl<P: Part> Layout<P> {
 
     // The same where there is room for it.
     pub(crate) fn put_if_room(self, out: &mut [u8]) -> Result<u16, Refusal>
-        ensures answer { result ≡ and_then (room_answer (length out.old) self.fields) (λ _. Ok (frame_length self.fields.count)) }
-        ensures buffer { out.new ≡ filled_by out.old ((header_bytes self.fields ++ P.bytes self.part) ++ replicate (length out.old - frame_length self.fields.count) 0) (and_then (room_answer (length out.old) self.fields) (λ _. Ok (frame_length self.fields.count))) }
+        ensures { Filled out.old out.new result
+            (and_then (room_answer (length out.old) self.fields) (λ _. Ok (frame_length self.fields.count)))
+            ((header_bytes self.fields ++ P.bytes self.part) ++ replicate (length out.old - frame_length self.fields.count) 0) }
     {
         check_room(out.len(), &self.fields)?;
         Ok(self.put(out))

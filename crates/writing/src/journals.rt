@@ -16,12 +16,12 @@ use refusal::Refusal;
 
 // An owner's list, as what lies behind a history's header.
 #[derive(Drop)]
-pub(crate) struct Listed<'a, J> {
+pub(crate) struct ListPart<'a, J> {
     pub(crate) journal: &'a J,
     pub(crate) owner: u16,
 }
 
-impl<J: Journal> Part for Listed<'_, J> {
+impl<J: Journal> Part for ListPart<'_, J> {
     ghost bytes = { λ s. entries_bytes (J.lists s.journal.now s.owner) };
 
     fn put_part(&self, out: &mut [u8]) {
@@ -78,6 +78,6 @@ pub fn write_history<K: OrderKind, J: Journal>(
     ensures buffer { out.new ≡ written out.old (history_of sender epoch mark (J.lists journal.now owner)) (history_answer (codes_of K.decode) cabinets (J.limit journal.now) (J.owners journal.now) owner (length out.old) (history_of sender epoch mark (J.lists journal.now owner))) }
 {
     let fields = check_history::<K, J>(cabinets, sender, epoch, mark, journal, owner, out.len())?;
-    let part = Listed { journal, owner };
+    let part = ListPart { journal, owner };
     Ok(Layout { fields, part }.put(out))
 }

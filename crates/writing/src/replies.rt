@@ -1,11 +1,11 @@
 // What a cabinet says, as a frame in the caller's buffer: nothing is asked but the list, the entry that is named, and room.
-ghost use Rattle.std.specs.Prelude.{◌≡◌, length};
+ghost use Rattle.std.specs.Prelude.{length};
 ghost use Rattle.cabinet.specs.declared.Reply.TheVariants.{Entry as EntryReply, History as HistoryReply};
-ghost use Rattle.writing.specs.Replies.{bare_answer, bare_frame, filled_by, reply_answer};
+ghost use Rattle.writing.specs.Replies.{Filled, bare_answer, bare_frame, reply_answer};
 ghost use Rattle.writing.specs.Speaking.{letter_said, spoken_into};
 
 use crate::buffers::Layout;
-use crate::journals::Listed;
+use crate::journals::ListPart;
 use crate::writer::bare;
 use cabinet::Reply;
 use entries::bytes_of;
@@ -22,8 +22,9 @@ fn write_list<J: Journal>(
     owner: u16,
     out: &mut [u8],
 ) -> Result<u16, Refusal>
-    ensures answer { result ≡ reply_answer (J.owners journal.now) owner (length out.old) sender epoch (J.lists journal.now owner) (HistoryReply mark) }
-    ensures buffer { out.new ≡ filled_by out.old (spoken_into out.old (letter_said sender epoch (J.lists journal.now owner) (HistoryReply mark))) (reply_answer (J.owners journal.now) owner (length out.old) sender epoch (J.lists journal.now owner) (HistoryReply mark)) }
+    ensures { Filled out.old out.new result
+        (reply_answer (J.owners journal.now) owner (length out.old) sender epoch (J.lists journal.now owner) (HistoryReply mark))
+        (spoken_into out.old (letter_said sender epoch (J.lists journal.now owner) (HistoryReply mark))) }
 {
     let count = journal.length(owner)? as usize;
     let fields = Fields {
@@ -32,7 +33,7 @@ fn write_list<J: Journal>(
         first: mark as u32,
         ..bare(sender, epoch)
     };
-    let part = Listed { journal, owner };
+    let part = ListPart { journal, owner };
     Layout { fields, part }.put_if_room(out)
 }
 
@@ -46,8 +47,9 @@ fn write_entry<J: Journal>(
     owner: u16,
     out: &mut [u8],
 ) -> Result<u16, Refusal>
-    ensures answer { result ≡ reply_answer (J.owners journal.now) owner (length out.old) sender epoch (J.lists journal.now owner) (EntryReply position mark) }
-    ensures buffer { out.new ≡ filled_by out.old (spoken_into out.old (letter_said sender epoch (J.lists journal.now owner) (EntryReply position mark))) (reply_answer (J.owners journal.now) owner (length out.old) sender epoch (J.lists journal.now owner) (EntryReply position mark)) }
+    ensures { Filled out.old out.new result
+        (reply_answer (J.owners journal.now) owner (length out.old) sender epoch (J.lists journal.now owner) (EntryReply position mark))
+        (spoken_into out.old (letter_said sender epoch (J.lists journal.now owner) (EntryReply position mark))) }
 {
     let entry = journal.entry(owner, position)?;
     let fields = Fields {
@@ -71,8 +73,9 @@ fn write_bare(
     second: u16,
     out: &mut [u8],
 ) -> Result<u16, Refusal>
-    ensures answer { result ≡ bare_answer (length out.old) }
-    ensures buffer { out.new ≡ filled_by out.old (bare_frame kind sender epoch first second out.old) (bare_answer (length out.old)) }
+    ensures { Filled out.old out.new result
+        (bare_answer (length out.old))
+        (bare_frame kind sender epoch first second out.old) }
 {
     let fields = Fields {
         kind,
@@ -95,8 +98,9 @@ pub fn write_reply<J: Journal>(
     owner: u16,
     out: &mut [u8],
 ) -> Result<u16, Refusal>
-    ensures answer { result ≡ reply_answer (J.owners journal.now) owner (length out.old) sender epoch (J.lists journal.now owner) reply }
-    ensures buffer { out.new ≡ filled_by out.old (spoken_into out.old (letter_said sender epoch (J.lists journal.now owner) reply)) (reply_answer (J.owners journal.now) owner (length out.old) sender epoch (J.lists journal.now owner) reply) }
+    ensures { Filled out.old out.new result
+        (reply_answer (J.owners journal.now) owner (length out.old) sender epoch (J.lists journal.now owner) reply)
+        (spoken_into out.old (letter_said sender epoch (J.lists journal.now owner) reply)) }
 {
     if owner >= journal.owners() {
         return Err(Refusal::NoCabinet);

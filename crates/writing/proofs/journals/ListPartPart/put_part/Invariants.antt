@@ -1,7 +1,7 @@
 use Rattle.std.proofs.Common.{◌≡◌, ◌≤◌, take}
 use Rattle.entries.specs.Entries.{entries_bytes}
 use Rattle.writing.specs.Writing.{over}
-use Rattle.writing.proofs.journals.ListedPart.put_part.Given as goal
+use Rattle.writing.proofs.journals.ListPartPart.put_part.Given as goal
 
 -- the buffer has the entries before the position behind the header's place
 abbrev pub invariant-loop-position : goal.invariant-loop-position

@@ -12,8 +12,8 @@ use Rattle.entries.proofs.Journals.{entry_tells}
 use Rattle.entries.proofs.ListTrips.{bytes_length}
 use Rattle.writing.specs.Writing.{over}
 use Rattle.writing.proofs.Layers.{over_over, bytes_more}
-use Rattle.writing.proofs.journals.ListedPart.put_part.Goals as goal
-use Rattle.writing.proofs.journals.ListedPart.put_part.Goals.{in-Ok, in_default}
+use Rattle.writing.proofs.journals.ListPartPart.put_part.Goals as goal
+use Rattle.writing.proofs.journals.ListPartPart.put_part.Goals.{in-Ok, in_default}
 
 -- below the length, no entry is refused
 never : (owners o k n : ℕ) (e : Refusal) (ls : ℕ → List Entry) → n ≡ result_unwrap_or (length_answer owners ls o) 0 → k < n → Err e ≡ entry_answer owners ls o k → ⊥
