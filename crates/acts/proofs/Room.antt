@@ -1,9 +1,8 @@
 -- What entering an entry comes to, where there is room and where there is none. Assumes nothing.
-use Rattle.std.proofs.Common.{◌≡◌, ℕ, ◌+◌, ◌<◌, ◌≤◌, Bool, cond, ◌&&◌, eqb, ltb, List, [], ◌∷◌, ◌++◌, length, Ok, Err, sym, ap, ◌∙◌, ap₂, arith}
+use Rattle.std.proofs.Common.{◌≡◌, ℕ, ◌+◌, ◌<◌, ◌≤◌, Bool, cond, eqb, ltb, List, [], ◌∷◌, ◌++◌, length, Ok, Err, sym, ap, ◌∙◌, ap₂, arith}
 use Rattle.std.proofs.lemmas.List.{length_push}
-use Rattle.std.proofs.lemmas.Bool.{cond-true, cond-false, lt-ltb, le-ltb, and_right}
+use Rattle.std.proofs.lemmas.Bool.{cond-true, lt-ltb}
 use Rattle.std.proofs.lemmas.Bool.Decides.{nat_tests}
-use Rattle.refusal.specs.declared.Refusal.{Refusal}
 use Rattle.refusal.specs.declared.Refusal.TheVariants.{Full}
 use Rattle.journal.specs.declared.Entry.{Entry}
 use Rattle.journal.specs.Lists.{append_answer, append_lists}
@@ -20,19 +19,10 @@ use Rattle.acts.specs.Acts.{entered, enter_step}
 pub append_told : (owners limit i : ℕ) (ls : ℕ → List Entry) → Ok tt ≡ append_answer owners limit ls i → (i < owners) × (length (ls i) < limit)
 append_told owners limit i ls told = grind (arith, nat_tests)
 
--- one that was refused, with an owner, had none
-pub append_refused : (owners limit i : ℕ) (ls : ℕ → List Entry) (r : Refusal) → i < owners → Err r ≡ append_answer owners limit ls i → (limit ≤ length (ls i)) × (r ≡ Full)
-append_refused owners limit i ls r owner told = grind (arith, nat_tests)
-
 module _ (owners limit : ℕ) (ls : ℕ → List Entry) (i : ℕ) (e : Entry) (owner : i < owners) where
   -- an append with room leaves the owner's list longer by the entry
   pub lists_with_room : length (ls i) < limit → (p : ℕ) → append_lists owners limit ls i e p ≡ cond (eqb p i) (ls i ++ e ∷ []) (ls p)
   lists_with_room room p = grind (arith, nat_tests)
-
-  -- and one without leaves the lists as they were
-  pub lists_without_room : limit ≤ length (ls i) → (p : ℕ) → append_lists owners limit ls i e p ≡ ls p
-  lists_without_room none p =
-      ap (λ (b : Bool). cond (b && eqb p i) (ls p ++ e ∷ []) (ls p)) (and_right (ltb i owners) (ltb (length (ls i)) limit) (le-ltb (length (ls i)) limit none))
 
 module _ (quorum : ℕ → ℕ → Bool) (owners limit : ℕ) (ls : ℕ → List Entry) (i : ℕ) (c : Cabinet) (e : Entry) (owner : i < owners) (reaches : c.mark ≤ length (ls i)) where
   -- what entering the entry comes to
@@ -46,10 +36,6 @@ module _ (quorum : ℕ → ℕ → Bool) (owners limit : ℕ) (ls : ℕ → List
   -- where there is room, the entry is entered
   pub with_room : length (ls i) < limit → outcome ≡ Ok step
   with_room room = listed_ok owners ls i c (enter_step quorum limit i (ls i) c e) owner reaches ∙ cond-true (ltb (length (ls i)) limit) (Ok step) (Err Full) (lt-ltb (length (ls i)) limit room)
-
-  -- where there is none, it is refused
-  pub without_room : limit ≤ length (ls i) → outcome ≡ Err Full
-  without_room none = listed_ok owners ls i c (enter_step quorum limit i (ls i) c e) owner reaches ∙ cond-false (ltb (length (ls i)) limit) (Ok step) (Err Full) (le-ltb (length (ls i)) limit none)
 
   -- committing after the append is accepted, and makes the record of the step
   pub commit_entered : (owners' : ℕ) (ls' : ℕ → List Entry) (d : Cabinet) → owners' ≡ owners → ls' i ≡ ls i ++ e ∷ [] → d ≡ raised i (length (ls i) + 1) c

@@ -1,5 +1,5 @@
 -- One more entry of two lists that begin alike. Assumes nothing.
-use Rattle.std.proofs.Common.{◌≡◌, ℕ, zero, suc, ◌+◌, ◌<◌, ◌≤◌, true, false, ◌&&◌, eqb, List, length, get_or, Ok, Err, sym, refl, ap, ◌∙◌, ap₂, add-one, arith}
+use Rattle.std.proofs.Common.{◌≡◌, ℕ, zero, suc, ◌+◌, true, false, ◌&&◌, eqb, List, get_or, Ok, sym, refl, ap, ◌∙◌, ap₂, add-one, arith}
 use Rattle.journal.specs.declared.Entry.{Entry}
 use Rattle.journal.specs.declared.EntryKind.{EntryKind}
 use Rattle.journal.specs.declared.EntryKind.TheVariants.{Configuration, Order}
@@ -8,14 +8,8 @@ use Rattle.journal.specs.Entries.{blank, kind_number}
 use Rattle.std.proofs.Math.Bool.{and_assoc}
 use denote.Enum.Bare.{sameb}
 use Rattle.std.proofs.lemmas.Bool.Decides.{nat_tests}
-use Rattle.refusal.specs.declared.Refusal.{Refusal}
 use Rattle.entries.specs.Entries.{place_answer}
-use Rattle.entries.specs.Replacing.{replace_answer}
 use Rattle.messages.specs.Messages.{same_entry, same_front}
-
--- a history within the limit is never refused as a list
-pub replace_fits : (owners limit o : ℕ) (es : List Entry) (e : Refusal) → o < owners → length es ≤ limit → Err e ≡ replace_answer owners limit o es → ⊥
-replace_fits owners limit o es e owner fits told = grind (arith, nat_tests)
 
 -- an entry that is given is the one at its place
 pub place_tells : (es : List Entry) (k : ℕ) (e : Entry) → Ok e ≡ place_answer es k → get_or es k blank ≡ e

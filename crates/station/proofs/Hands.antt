@@ -14,10 +14,6 @@ use Rattle.calls.specs.Calls.{hand_call}
 use Rattle.station.specs.Acting.{handed}
 use Rattle.station.proofs.Refusing.{Named, both_accepted, named_tells, tray_tells}
 
--- a part that ends within the bytes begins there
-pub begins_within : (at size n : ℕ) → 1 ≤ size → at + size ≤ n → at < n
-begins_within at size n some ends = omega arith
-
 -- five checks one after another, and then a step
 pub five_then : (a b c d e : Result (Unit {0}) Refusal) (o : Outcome)
     → and_then a (λ _. and_then b (λ _. and_then c (λ _. and_then d (λ _. and_then e (λ _. o))))) ≡ and_then (and_then a (λ _. and_then b (λ _. and_then c (λ _. and_then d (λ _. e))))) (λ _. o)

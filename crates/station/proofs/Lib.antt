@@ -1,4 +1,3 @@
-pub mod Openings
 pub mod Refusing
 pub mod Finishing
 pub mod Wording

@@ -25,29 +25,6 @@ use Rattle.writing.specs.Speaking.{answer_by}
 pub same_table : (table : List Cabinet) (i : ℕ) (d : Cabinet) → d ≡ get_or table i no_cabinet → set table i d ≡ table
 same_table table i d same = ap (set table i) same ∙ set-get_or table i no_cabinet
 
--- a refusal that was told is the step's
-pub done_refused : (r : Result Cabinet Refusal) (e : Refusal) → Err e ≡ done r → r ≡ Err e
-done_refused (Ok d) e told = absurd (let z : ◌≡◌ {A = ℕ} 0 1 = cc in omega arith)
-done_refused (Err f) e told = cc
-
--- a cabinet that refuses to stop or start refuses the call
-pub switch_refused : (s : Station) (i : ℕ) (step : Result Cabinet Refusal) (e : Refusal) → Ok tt ≡ named s i → step ≡ Err e → switching s i step ≡ Err e
-switch_refused s i step e named_ok refused =
-    sym (ap (λ (r : Result (Unit {0}) Refusal). and_then r (λ _. and_then step (λ d. Ok (leaves d (s.lists i) Nothing)))) named_ok)
-    ∙ ap (λ (r : Result Cabinet Refusal). and_then r (λ d. Ok (leaves d (s.lists i) Nothing))) refused
-
--- and leaves the station as it was
-pub switch_ended : (s : Station) (i : ℕ) (d : Cabinet) (step : Result Cabinet Refusal) (call : Station → Outcome) (e : Refusal) (r : Result (ℕ × ℕ) Refusal)
-    → call s ≡ switching s i step → Ok tt ≡ named s i → Err e ≡ done step → d ≡ after (cabinet_at s i) step → r ≡ Err e
-    → Ended s (station (set s.table i d) s.owners s.limit s.lists s.trays) i 0 r call
-switch_ended s i d step call e r meant named_ok told left said =
-    let refused = done_refused step e told in
-    let whole = meant ∙ switch_refused s i step e named_ok refused in
-    record {
-      answer = said ∙ sym (ap (answer_by i) whole);
-      station = ap (λ t. station t s.owners s.limit s.lists s.trays) (same_table s.table i d (left ∙ ap (after (cabinet_at s i)) refused)) ∙ sym (ap (station_after s i 0) whole);
-    }
-
 -- what follows an accepted answer was accepted, and so was the answer
 pub both_accepted : {A : Type 0} (a : Result (Unit {0}) Refusal) (f : Unit {0} → Result A Refusal) (x : A) → Ok x ≡ and_then a f → (Ok tt ≡ a) × (Ok x ≡ f tt)
 both_accepted (Ok tt) f x told = (refl, told)
@@ -102,13 +79,3 @@ does_step codes s i k o told =
     checks_then (named s i) (has_tray s k) (ready_at codes s i) o
     ∙ sym (ap (λ (r : Result (Unit {0}) Refusal). and_then r (λ _. o)) told)
     ∙ sym (listed_ok s.owners s.lists i (cabinet_at s i) o (omega (arith, t.is_named.within, t.is_named.owned)) t.reaches)
-
--- a refresh leaves the record as it was
-pub refresh_leaves : (owners : ℕ) (ls : ℕ → List Entry) (i : ℕ) (c : Cabinet) → c ≡ left_by c (listed owners ls i c (refresh_step (ls i) c))
-refresh_leaves owners ls i c = all (ltb i owners) (leb c.mark (length (ls i))) (eqb c.role 2)
-  where
-    all : (a b d : Bool) → c ≡ left_by c (cond a (cond b (and_then (unless d NotLeading) (λ _. Ok (says_history (ls i) c))) (Err NoPosition)) (Err NoCabinet))
-    all true true true = refl
-    all true true false = refl
-    all true false d = refl
-    all false b d = refl

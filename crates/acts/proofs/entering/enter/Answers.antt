@@ -1,60 +1,14 @@
-use Rattle.std.proofs.Common.{◌≡◌, ℕ, ◌+◌, Bool, eqb, List, [], ◌∷◌, ◌++◌, length, Ok, Err, Result, sym, refl, ap, ◌∙◌, ap₂, arith}
-use Rattle.std.proofs.lemmas.Result.{err_from_is_err_and}
+use Rattle.std.proofs.Common.{◌≡◌, ℕ, ◌+◌, Bool, eqb, List, [], ◌∷◌, ◌++◌, length, Ok, sym, refl, ap, ◌∙◌, ap₂}
 use Rattle.std.proofs.lemmas.Bool.{cond-true, eq-eqb}
-use Rattle.refusal.specs.declared.Refusal.{Refusal}
 use Rattle.journal.specs.declared.Entry.{Entry}
 use Rattle.cabinet.specs.declared.Cabinet.{Cabinet}
 use Rattle.cabinet.specs.declared.Reply.TheVariants.{Entry as Entered}
-use Rattle.cabinet.specs.Records.{raised, after, done}
+use Rattle.cabinet.specs.Records.{raised, after}
 use Rattle.cabinet.specs.Steps.{left_by, lists_by, said_by}
-use Rattle.cabinet.proofs.Listed.{listed_tells, unlisted_over}
+use Rattle.cabinet.proofs.Listed.{listed_tells}
 use Rattle.acts.specs.Acts.{entered}
-use Rattle.acts.proofs.Room.{append_told, append_refused, with_room, without_room, lists_with_room, lists_without_room, commit_entered}
+use Rattle.acts.proofs.Room.{append_told, with_room, lists_with_room, commit_entered}
 use Rattle.acts.proofs.entering.enter.Goals as goal
-
-pub returns-in_err-position : goal.returns-in_err-position
-returns-in_err-position g c =
-    let error = err_from_is_err_and c.from_residual.result c.from_residual.ensures.1 in
-    unlisted_over _ _ _ _ _ _ _ _ c.in_err-position.field-0.0 c.from_residual.result (sym c.in_err-position.was ∙ c.list_length.ensures) (error.1 ∙ ap (λ (r : Refusal). Err r) error.2)
-
-pub returns-in_err-append : goal.returns-in_err-append
-returns-in_err-append g c =
-    let ls : ℕ → List Entry = g.J.Journal.lists c.args.journal.now in
-    let owners : ℕ = g.J.Journal.owners c.args.journal.now in
-    let limit : ℕ = g.J.Journal.limit c.args.journal.now in
-    let quorum : ℕ → ℕ → Bool = g.R.QuorumRule.quorum c.args.rule.now in
-    let i : ℕ = c.args.number in
-    let before : Cabinet = c.args.cabinet.now in
-    let e : Entry = c.args.entry in
-    let count = listed_tells owners ls i before c.in_ok-position.position (length (ls i)) c.in_ok-position.ensures in
-    let told = append_refused owners limit i ls c.in_err-append.field-0.0 count.0 (sym c.in_err-append.was ∙ c.append.ensures.answer) in
-    let full = without_room quorum owners limit ls i before e count.0 count.1 told.0 in
-    let error = err_from_is_err_and c.from_residual-in_err-append.result c.from_residual-in_err-append.ensures.1 in
-    record {
-      answer = error.1 ∙ ap (λ (r : Refusal). Err r) (error.2 ∙ told.1) ∙ sym (ap said_by full);
-      «record» = sym (ap (left_by before) full);
-      journal = record { lists = λ p. c.append.ensures.journal.lists p ∙ lists_without_room owners limit ls i e count.0 told.0 p ∙ sym (ap (λ o. lists_by ls i o p) full); owners = c.append.ensures.journal.owners; limit = c.append.ensures.journal.limit };
-    }
-
-pub returns-in_err-commit : goal.returns-in_err-commit
-returns-in_err-commit g c =
-    let ls : ℕ → List Entry = g.J.Journal.lists c.args.journal.now in
-    let ls' : ℕ → List Entry = g.J.Journal.lists c.append.new.self in
-    let owners : ℕ = g.J.Journal.owners c.args.journal.now in
-    let owners' : ℕ = g.J.Journal.owners c.append.new.self in
-    let limit : ℕ = g.J.Journal.limit c.args.journal.now in
-    let quorum : ℕ → ℕ → Bool = g.R.QuorumRule.quorum c.args.rule.now in
-    let i : ℕ = c.args.number in
-    let before : Cabinet = c.args.cabinet.now in
-    let e : Entry = c.args.entry in
-    let count = listed_tells owners ls i before c.in_ok-position.position (length (ls i)) c.in_ok-position.ensures in
-    let told = append_told owners limit i ls (sym c.in_ok-append.was ∙ c.append.ensures.answer) in
-    let lists = λ (p : ℕ). c.append.ensures.journal.lists p ∙ lists_with_room owners limit ls i e count.0 told.1 p in
-    let grown : ls' i ≡ ls i ++ e ∷ [] = lists i ∙ cond-true (eqb i i) (ls i ++ e ∷ []) (ls i) (eq-eqb i i refl) in
-    let raise : c.raise.new.self ≡ raised i (length (ls i) + 1) before = c.raise.ensures ∙ ap (λ n. raised i (n + 1) before) count.2 in
-    let committed = commit_entered quorum owners limit ls i before e count.0 count.1 owners' ls' c.raise.new.self c.append.ensures.journal.owners grown raise in
-    let refused : ◌≡◌ {A = Result (Unit {0}) Refusal} (Err c.in_err-commit.field-0.0) (Ok tt) = sym c.in_err-commit.was ∙ c.commit.ensures.answer ∙ ap done committed in
-    absurd (let z : ◌≡◌ {A = ℕ} 0 1 = cc in omega arith)
 
 pub returns : goal.returns
 returns g c =
