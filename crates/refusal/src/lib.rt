@@ -61,12 +61,10 @@ impl Refusal {
     {
         self as u8
     }
-}
 
-// What was refused, in a few words for people.
-impl fmt::Display for Refusal {
-    fn fmt<W: fmt::Write>(&self, f: &mut fmt::Formatter<W>) -> fmt::Result {
-        f.write_str(match self {
+    // What was refused, in a few words for people.
+    pub fn text(self) -> &'static str {
+        match self {
             Refusal::OutOfBounds => "a part is outside its bounds",
             Refusal::NoCabinet => "no such cabinet",
             Refusal::NoTray => "no such tray, or too little memory",
@@ -97,7 +95,14 @@ impl fmt::Display for Refusal {
             Refusal::VoterAhead => "the voter's list is later than the candidate's",
             Refusal::NoPosition => "no such position",
             Refusal::ListShort => "the list is too short",
-        })
+        }
+    }
+}
+
+// Its text.
+impl fmt::Display for Refusal {
+    fn fmt<W: fmt::Write>(&self, f: &mut fmt::Formatter<W>) -> fmt::Result {
+        f.write_str(self.text())
     }
 }
 
