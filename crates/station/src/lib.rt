@@ -20,7 +20,7 @@ pub use switching::{start, stop};
 
 // What a cabinet does of itself. No closure: it would have to bring, with a proof, what each case has by its definition.
 #[derive(Clone, Copy)]
-pub(crate) enum Act<K> {
+pub enum Act<K> {
     Stand,
     Submit(K),
     Change { version: u32, members: u16 },
