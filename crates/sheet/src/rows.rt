@@ -51,10 +51,11 @@ impl Journal for Sheet<'_> {
     }
 
     fn entry(&self, owner: u16, position: u16) -> Result<Entry, Refusal> {
-        let list = self.rows.used(owner)?;
-        list.get(position as usize)
-            .copied()
-            .ok_or(Refusal::NoPosition)
+        let row = self.rows.row(owner)?;
+        if position as usize >= row.used {
+            return Err(Refusal::NoPosition);
+        }
+        Ok(self.rows.places[row.start + position as usize])
     }
 
     fn append(&mut self, owner: u16, entry: Entry) -> Result<(), Refusal> {
